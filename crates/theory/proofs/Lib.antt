@@ -1,0 +1,12 @@
+pub mod Lowest
+pub mod Ints
+pub mod Eval
+pub mod Plain
+pub mod Laws
+pub mod Rows
+pub mod Claims
+pub mod Sums
+pub mod Walk
+pub mod Sound
+pub mod Numbered
+pub mod Taken

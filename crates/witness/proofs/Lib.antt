@@ -1,0 +1,6 @@
+pub mod Filled
+pub mod Judged
+pub mod Records
+pub mod Signs
+pub mod Tables
+pub mod Tests

@@ -1,0 +1,10 @@
+use mathlib.Core.Path.{_≡_}
+use Rattle.std.specs.declared.option.Option.the-variants.{None}
+use Rattle.theory.specs.Words.{lowest}
+use Rattle.theory.specs.Answers.{keptAt}
+use Rattle.witness.specs.Regions.{boxOf}
+use Rattle.witness.specs.Rows.{rowOf}
+use Rattle.witness.proofs.rows.failing_corner.Given as given
+
+abbrev pub Inv-loop-number : given.InvT-loop-number
+Inv-loop-number g l = lowest (keptAt (g .T·Claim .said (l .claim)) (l .unit) (l .region .grid) (boxOf (l .region)) (rowOf (l .row)) (l .state)) (l .number) ≡ None
