@@ -1,6 +1,8 @@
 // The claims that a witness makes of each row.
 ghost use Prim.Native.Nat.{ℕ, _<_};
 ghost use mathlib.Core.Path.{_≡_};
+ghost use mathlib.Core.Bool.{not, _&&_};
+ghost use lib.Dec.{ltb};
 ghost use denote.Ref.{now};
 ghost use Rattle.theory.specs.Witness.{Said, at, atMost, atLeast, steps};
 
@@ -31,6 +33,13 @@ pub(crate) fn number_at(v: &[u32], state: u32) -> u32
     } else {
         0
     }
+}
+
+// Whether a state is not bad and has a number above 0.
+fn is_counted(v: &[u32], marked: bool, state: u32) -> bool
+    ensures { λ r. ⌜ r ≡ (not marked && ltb 0 (at (now (v .entry)) state)) ⌝ }
+{
+    !marked && 0 < number_at(v, state)
 }
 
 // The sum is at most the state's number, at every state that is not bad.
@@ -69,7 +78,7 @@ pub(crate) impl<'a> Claim for AtLeast<'a> as AtLeastClaim {
     ghost said = { λ c. atLeast (at (now (c .v))) };
 
     fn tests(&self, marked: bool, state: u32) -> bool {
-        !marked && 0 < number_at(self.v, state)
+        is_counted(self.v, marked, state)
     }
 
     fn number(&self, state: u32) -> u32 {
@@ -96,7 +105,7 @@ pub(crate) impl<'a, 'b> Claim for Steps<'a, 'b> as StepsClaim {
     ghost said = { λ c. steps (at (now (c .v))) (at (now (c .w))) };
 
     fn tests(&self, marked: bool, state: u32) -> bool {
-        !marked && 0 < number_at(self.v, state)
+        is_counted(self.v, marked, state)
     }
 
     fn number(&self, state: u32) -> u32 {

@@ -4,6 +4,9 @@ ghost use lib.ListN.{length, getD};
 
 pub mod build;
 
+// A grid number for each of up to four rates.
+pub type Sides = [u32; 4];
+
 // A box of rates: on a grid of 1 to 1,000, a low and a high grid number for each of 1 to 4 rates, each low
 // below its high. What stands behind the last rate has no meaning.
 #[derive(Clone, Copy)]

@@ -11,9 +11,18 @@ ghost use Rattle.witness.specs.Rows.{entry, Small, room};
 fn times(n: u32, z: i64) -> i64
     requires n_few { ⌜ n ≤ 1000 ⌝ }
     requires z_small { ⌜ natAbs z ≤ 2 ^ 40 ⌝ }
-    ensures { λ r. ⌜ r ≡ n · z ⌝ }
+    ensures product { λ r. ⌜ r ≡ n · z ⌝ }
+    ensures bound { λ r. ⌜ natAbs r ≤ 2 ^ 50 ⌝ }
 {
     n as i64 * z
+}
+
+fn plus(x: i64, y: i64) -> i64
+    requires x_small { ⌜ natAbs x ≤ 2 ^ 50 ⌝ }
+    requires y_small { ⌜ natAbs y ≤ 2 ^ 50 ⌝ }
+    ensures { λ r. ⌜ r ≡ x +ℤ y ⌝ }
+{
+    x + y
 }
 
 // One entry of the table with its last rate set: the coefficient without the rate, and the one with it.
@@ -24,7 +33,7 @@ fn mixed(grid: u32, rate: u32, without: i64, with: i64) -> i64
     requires with_small { ⌜ natAbs with ≤ 2 ^ 40 ⌝ }
     ensures { λ r. ⌜ r ≡ grid · without +ℤ rate · with ⌝ }
 {
-    times(grid, without) + times(rate, with)
+    plus(times(grid, without), times(rate, with))
 }
 
 // Sets the last rate: the low half of the table takes in the high half.
@@ -77,6 +86,7 @@ fn widened(coefficients: &[i16; 8]) -> [i64; 8]
 pub(crate) fn table_size(named: usize) -> usize
     requires { ⌜ named ≤ 3 ⌝ }
     ensures size { λ r. ⌜ r ≡ 2 ^ named ⌝ }
+    ensures some { λ r. ⌜ 1 ≤ r ⌝ }
     ensures few { λ r. ⌜ r ≤ 8 ⌝ }
 {
     match named {

@@ -9,6 +9,7 @@ ghost use Rattle.theory.specs.Words.{lowest};
 ghost use Rattle.theory.specs.Witness.{at};
 ghost use Rattle.witness.specs.Regions.{sideOk, regionAnswer, Laid};
 use crate::region::Region;
+use crate::region::Sides;
 use chain::refusal::Refusal;
 
 fn side_ok(grid: u32, low: u32, high: u32) -> bool
@@ -32,7 +33,7 @@ fn first_bad_side(grid: u32, rates: u32, low: &[u32; 4], high: &[u32; 4]) -> Opt
 
 impl Region {
     // A region, or a refusal of the grid (6) or of the sides or their count (7).
-    pub fn new(grid: u32, rates: u32, low: [u32; 4], high: [u32; 4]) -> Result<Region, Refusal>
+    pub fn new(grid: u32, rates: u32, low: Sides, high: Sides) -> Result<Region, Refusal>
         ensures { λ r. ⌜ Cases r (Laid grid rates low high) (λ e. regionAnswer grid rates low high ≡ Err e) ⌝ }
     {
         if grid < 1 || grid > 1000 {
