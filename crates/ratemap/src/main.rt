@@ -1,28 +1,29 @@
-// Judges witnesses for two boxes of rates of a pass line, and prints what came of each.
+// Maps the rates of a pass line: lays out a field, cuts it, judges its boxes, and prints each answer and the sheet.
 use chain::interface::Chain;
-use chain::refusal::Refusal;
 use pass_line::line::PassLine;
 use pass_line::line::answers::PassLineChain;
+use rate_map::call::Call;
+use rate_map::map::ClosedMap;
+use rate_map::run::Ended;
+use rate_map::run::run;
+use sheet::write_box;
 use std::error::AnyError;
-use theory::verdict::Verdict;
-use witness::judge::judge_safe;
-use witness::judge::judge_unsafe;
-use witness::region::Region;
+use std::io::Write;
+use theory::record::Answer;
 
-const GRID: u32 = 100;
+// A pass jams at 5 to 45 of 100, and a remake is late at 20 to 60 of 100.
+const FIELD: [u32; 4] = [5, 45, 20, 60];
 
-const LIMIT: u32 = 250_000;
-
-// Where a pass jams seldom: the numbers bound the chance of a late job from above.
+// Where a pass jams seldom, at 5 to 10: the numbers bound the chance of a late job from above.
 const SELDOM: [u32; 11] = [
-    122874,
-    125843,
-    175323,
-    83692,
-    86794,
-    138484,
-    42760,
-    46000,
+    176185,
+    177450,
+    209087,
+    121207,
+    122557,
+    156304,
+    62560,
+    64000,
     100000,
     0,
     1000000,
@@ -30,79 +31,73 @@ const SELDOM: [u32; 11] = [
 
 // The same with one number too small by one.
 const BROKEN: [u32; 11] = [
-    122874,
-    125843,
-    175322,
-    83692,
-    86794,
-    138484,
-    42760,
-    46000,
+    176185,
+    177450,
+    209086,
+    121207,
+    122557,
+    156304,
+    62560,
+    64000,
     100000,
     0,
     1000000,
 ];
 
-// Where a pass jams often: the numbers bound the chance from below, and the rounds say how soon it is met.
+// Where a pass jams often, at 30 to 45: the numbers bound the chance from below, and the rounds say how soon it is met.
 const OFTEN: [u32; 11] = [
-    388731,
-    405066,
-    495819,
-    279742,
-    298990,
-    405924,
-    151320,
-    174000,
+    250593,
+    283859,
+    422467,
+    174954,
+    211578,
+    364176,
+    91680,
+    132000,
     300000,
     0,
     1000000,
 ];
 
-const ROUNDS: [u32; 11] = [4, 4, 4, 3, 3, 3, 2, 2, 1, 0, 0];
+const ROUNDS: [u32; 11] = [5, 5, 4, 4, 4, 3, 2, 2, 1, 0, 0];
 
-fn refused(e: Refusal) -> AnyError {
-    match e.number() {
-        14 => "the line's numbers are refused".into(),
-        _ => "the box is refused".into(),
-    }
-}
-
-fn print_answer(
-    rt: &LibcRuntime,
-    name: &str,
-    answer: Result<Verdict, Refusal>,
-) -> Result<(), AnyError> {
+fn print_answer(rt: &LibcRuntime, number: u32, rates: u32, answer: Answer) -> Result<(), AnyError> {
     match answer {
-        Ok(Verdict::Open) => println!(rt, "{name}: open")?,
-        Ok(Verdict::Safe { bound }) => println!(rt, "{name}: safe {bound}")?,
-        Ok(Verdict::Unsafe { bound, steps }) => println!(rt, "{name}: unsafe {bound} {steps}")?,
-        Err(e) => {
-            let number = e.number();
-            let place = e.place();
-            println!(rt, "{name}: refused {number} {place}")?;
+        Answer::Done => println!(rt, "ok")?,
+        Answer::Refused(e) => println!(rt, "refused {} {}", e.number(), e.place())?,
+        Answer::Count(n) => println!(rt, "{n} boxes")?,
+        Answer::Found(b) => {
+            let mut line = [0u8; 128];
+            match write_box(number, rates, &b, &mut line) {
+                Ok(n) => rt.stdout().write_all(&line[0..n])?,
+                Err(_) => return Err("no room for a line".into()),
+            }
         }
+        Answer::Measured(v) => println!(
+            rt,
+            "safe {}, unsafe {}, open {}",
+            v.safe, v.exceeding, v.pending
+        )?,
     }
     Ok(())
 }
 
-// A box of jam rates and remake rates, printed.
-fn print_box(rt: &LibcRuntime, jam: (u32, u32), remake: (u32, u32)) -> Result<Region, AnyError> {
-    let region = match Region::new(GRID, 2, [jam.0, remake.0, 0, 0], [jam.1, remake.1, 0, 0]) {
-        Ok(region) => region,
-        Err(e) => return Err(refused(e)),
-    };
-    println!(
-        rt,
-        "box: jam {} to {}, remake {} to {} of {GRID}",
-        jam.0, jam.1, remake.0, remake.1
-    )?;
-    Ok(region)
+fn print_sheet(rt: &LibcRuntime, map: &ClosedMap<PassLine>) -> Result<(), AnyError> {
+    let mut bytes = vec![in rt.alloc(); 0u8; 16384]?;
+    match map.sheet(&mut bytes) {
+        Ok(n) => match bytes.get(0..n) {
+            Some(text) => rt.stdout().write_all(text)?,
+            None => return Err("no room for the sheet".into()),
+        },
+        Err(_) => return Err("no room for the sheet".into()),
+    }
+    Ok(())
 }
 
 fn main(rt: LibcRuntime) -> Result<(), AnyError> {
     let mut line = PassLine::new();
-    if let Err(e) = line.set(3, 2) {
-        return Err(refused(e));
+    if line.set(3, 2).is_err() {
+        return Err("the line's numbers are refused".into());
     }
     println!(
         rt,
@@ -112,23 +107,59 @@ fn main(rt: LibcRuntime) -> Result<(), AnyError> {
         line.states(),
         line.rates()
     )?;
-    println!(rt, "limit: {LIMIT}")?;
-    let seldom = print_box(&rt, (5, 10), (20, 40))?;
-    print_answer(
-        &rt,
-        "safe witness",
-        judge_safe(&line, &seldom, LIMIT, &SELDOM),
-    )?;
-    print_answer(
-        &rt,
-        "broken witness",
-        judge_safe(&line, &seldom, LIMIT, &BROKEN),
-    )?;
-    let often = print_box(&rt, (30, 45), (40, 60))?;
-    print_answer(
-        &rt,
-        "unsafe witness",
-        judge_unsafe(&line, &often, LIMIT, &OFTEN, &ROUNDS),
-    )?;
-    Ok(())
+    let rates = line.rates();
+    let calls = [
+        Call::LayOut {
+            grid: 100,
+            limit: 250_000,
+            sides: &FIELD,
+        },
+        Call::Split {
+            number: 0,
+            rate: 0,
+            place: 45,
+        },
+        Call::Split {
+            number: 0,
+            rate: 0,
+            place: 10,
+        },
+        Call::Split {
+            number: 1,
+            rate: 0,
+            place: 30,
+        },
+        Call::Safe {
+            number: 0,
+            v: &BROKEN,
+        },
+        Call::Safe {
+            number: 0,
+            v: &SELDOM,
+        },
+        Call::Unsafe {
+            number: 2,
+            v: &OFTEN,
+            w: &ROUNDS,
+        },
+        Call::Safe {
+            number: 2,
+            v: &SELDOM,
+        },
+        Call::Count,
+        Call::Find { number: 2 },
+        Call::Measure,
+    ];
+    match run(rt.alloc(), line, &calls, true) {
+        Ok(ran) => {
+            for answer in ran.answers.iter() {
+                print_answer(&rt, 2, rates, *answer)?;
+            }
+            match ran.map {
+                Ended::Open(_) => Ok(()),
+                Ended::Closed(map) => print_sheet(&rt, &map),
+            }
+        }
+        Err(_) => Err("no memory for the answers".into()),
+    }
 }

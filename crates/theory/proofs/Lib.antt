@@ -10,3 +10,6 @@ pub mod Walk
 pub mod Sound
 pub mod Numbered
 pub mod Taken
+pub mod Cover
+pub mod Volume
+pub mod Runs

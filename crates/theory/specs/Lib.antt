@@ -5,3 +5,5 @@ pub mod Chance
 pub mod Witness
 pub mod Answers
 pub mod Theorems
+pub mod Maps
+pub mod Runs

@@ -1,6 +1,8 @@
 // Why a witness that is taken can be believed: each function has a theorem for its contract.
 ghost use Rattle.theory.specs.Theorems.{Sum-is-value, Corners-decide, Safe-is-safe, Unsafe-is-unsafe, Safe-taken-exactly, Unsafe-taken-exactly};
+ghost use Rattle.theory.specs.Runs.{Runs-are-sound};
 
+pub mod record;
 pub mod verdict;
 
 pub fn sum_is_value()
@@ -25,4 +27,8 @@ pub fn safe_taken_exactly()
 
 pub fn unsafe_taken_exactly()
     ensures { λ _. ⌜ Unsafe-taken-exactly ⌝ }
+{}
+
+pub fn runs_are_sound()
+    ensures { λ _. ⌜ Runs-are-sound ⌝ }
 {}

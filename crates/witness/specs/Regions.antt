@@ -3,7 +3,7 @@ use Prim.Native.Nat.{ℕ, _≤_}
 use mathlib.Core.Path.{_≡_}
 use mathlib.Core.Bool.{Bool, _&&_}
 use mathlib.Core.List.{List}
-use lib.Dec.{leb, ltb}
+use lib.Dec.{leb}
 use Rattle.std.specs.declared.result.Result.{Result}
 use Rattle.std.specs.declared.result.Result.the-variants.{Ok}
 use Rattle.chain.specs.declared.refusal.Refusal.{Refusal}
@@ -12,15 +12,12 @@ use Rattle.theory.specs.Words.{passes}
 use Rattle.theory.specs.Boxes.{Box}
 use Rattle.theory.specs.Witness.{at}
 use Rattle.theory.specs.Answers.{need}
+use Rattle.theory.specs.Maps.{sideOk}
 use Rattle.witness.specs.declared.region.Region.{Region}
 
 -- the box of a region
 abbrev pub boxOf : Region → Box
 boxOf r = record { low = at (r .low); high = at (r .high) }
-
--- the sides of a rate
-abbrev pub sideOk : ℕ → List ℕ → List ℕ → ℕ → Bool
-sideOk G low high r = ltb (at low r) (at high r) && leb (at high r) G
 
 -- what is refused: the grid, then the sides or their count
 abbrev pub regionAnswer : ℕ → ℕ → List ℕ → List ℕ → Result (Unit {0}) Refusal

@@ -8,7 +8,7 @@ use Rattle.std.proofs.shelf.Ways.{tells}
 use Rattle.theory.specs.Words.{lowest}
 use Rattle.theory.specs.Witness.{at}
 use Rattle.theory.proofs.Lowest.{lowest-none}
-use Rattle.witness.specs.Regions.{sideOk}
+use Rattle.theory.specs.Maps.{sideOk}
 use Rattle.witness.proofs.region.Region.new.Needs as need
 
 side : (c : need.In-None) (r : ℕ) → r < c .args .rates → sideOk (c .args .grid) (c .args .low) (c .args .high) r ≡ true

@@ -1,6 +1,6 @@
 use mathlib.Core.Path.{sym}
 use Rattle.theory.proofs.Lowest.{lowest-found, lowest-more}
-use Rattle.witness.specs.Regions.{sideOk}
+use Rattle.theory.specs.Maps.{sideOk}
 use Rattle.witness.proofs.region.build.first_bad_side.Needs as need
 
 pub returns-then-not-side-ok : need.returns-then-not-side-ok
