@@ -61,14 +61,22 @@ const OFTEN: [u32; 11] = [
 
 const ROUNDS: [u32; 11] = [5, 5, 4, 4, 4, 3, 2, 2, 1, 0, 0];
 
-fn print_answer(rt: &LibcRuntime, number: u32, rates: u32, answer: Answer) -> Result<(), AnyError> {
+// The box that a call asks for.
+fn asked(call: &Call) -> u32 {
+    match call {
+        Call::Find { number } => *number,
+        _ => 0,
+    }
+}
+
+fn print_answer(rt: &LibcRuntime, call: &Call, rates: u32, answer: Answer) -> Result<(), AnyError> {
     match answer {
         Answer::Done => println!(rt, "ok")?,
         Answer::Refused(e) => println!(rt, "refused {} {}", e.number(), e.place())?,
         Answer::Count(n) => println!(rt, "{n} boxes")?,
         Answer::Found(b) => {
             let mut line = [0u8; 128];
-            match write_box(number, rates, &b, &mut line) {
+            match write_box(asked(call), rates, &b, &mut line) {
                 Ok(n) => rt.stdout().write_all(&line[0..n])?,
                 Err(_) => return Err("no room for a line".into()),
             }
@@ -152,8 +160,8 @@ fn main(rt: LibcRuntime) -> Result<(), AnyError> {
     ];
     match run(rt.alloc(), line, &calls, true) {
         Ok(ran) => {
-            for answer in ran.answers.iter() {
-                print_answer(&rt, 2, rates, *answer)?;
+            for (call, answer) in calls.iter().zip(ran.answers.iter()) {
+                print_answer(&rt, call, rates, *answer)?;
             }
             match ran.map {
                 Ended::Open(_) => Ok(()),
