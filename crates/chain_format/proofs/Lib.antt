@@ -1,0 +1,10 @@
+pub mod Laws
+pub mod Steps
+pub mod Loops
+pub mod RowLaws
+pub mod FileLaws
+pub mod OpenLaws
+pub mod TripLaws
+pub mod Holds
+pub mod Written
+pub mod Examples

@@ -1,0 +1,4 @@
+pub mod Reader
+pub mod Format
+pub mod Same
+pub mod Theorems
