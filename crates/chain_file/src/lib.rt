@@ -1,4 +1,7 @@
 // Chain files, opened by reference, and the chain that a file stores.
+
+#![tactic(auto)]
+
 mod check;
 mod contents;
 mod read;

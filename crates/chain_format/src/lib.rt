@@ -1,4 +1,7 @@
 // Why the format can be believed: each function has a theorem for its contract.
+
+#![tactic(auto)]
+
 ghost use Rattle.chain_format.specs.Theorems.{OpensRightly, OpensExactlyFiles, ReadThenWrite, WriteThenRead};
 
 pub fn opens_rightly()

@@ -1,4 +1,7 @@
 // Writes the file of any chain into a buffer.
+
+#![tactic(auto)]
+
 mod bytes;
 mod row;
 mod sections;

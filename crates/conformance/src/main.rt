@@ -1,4 +1,7 @@
 // Replays cases of the second implementation through the call that the program makes, and prints how many differ.
+
+#![tactic(auto)]
+
 ghost use Rattle.std.specs.Prelude.{◌+◌, ◌^◌, ◌<◌, length, IfSome};
 
 use job::map_job;

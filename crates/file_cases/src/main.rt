@@ -1,5 +1,8 @@
 // Shows what opening says of damaged files: chain D's file, cut off at each length and with each byte changed to each
 // value. Then files are written, opened and written again.
+
+#![tactic(auto)]
+
 ghost use Rattle.std.specs.Prelude.{◌<◌, ◌≤◌, length};
 
 use anyhow::anyhow;

@@ -1,4 +1,7 @@
 // A job: a chain file and a script in, what is printed out.
+
+#![tactic(auto)]
+
 ghost use Rattle.std.specs.Prelude.{◌≡◌, ℕ, [], ◌++◌, IfOk, if◌then◌else◌};
 ghost use Rattle.chain_format.specs.Format.{chain_in};
 ghost use Rattle.sheet.specs.Sheet.{refused_line};

@@ -1,4 +1,7 @@
 // Tests of the map on worked examples: what its calls answer, and what it shows after them.
+
+#![tactic(auto)]
+
 #[cfg(test)]
 mod changes;
 #[cfg(test)]

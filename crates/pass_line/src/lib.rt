@@ -1,4 +1,7 @@
 // The pass line: a chain that stores no row, and works each out from its number of passes and of repeats.
+
+#![tactic(auto)]
+
 pub mod line;
 
 #[cfg(test)]

@@ -1,4 +1,7 @@
 // Maps the rates of a pass line: lays out a field, cuts it, judges its boxes, and prints each answer and the sheet.
+
+#![tactic(auto)]
+
 use anyhow::anyhow;
 use chain::interface::Chain;
 use pass_line::line::PassLine;

@@ -1,5 +1,8 @@
 // Reads a chain file, job.chn, and a script from standard input, runs the script on a map over the chain, and prints the
 // answers and the sheet.
+
+#![tactic(auto)]
+
 use job::{MOST, map_job};
 use std::fs;
 use std::io::{ErrorKind, Read, Write};

@@ -1,4 +1,7 @@
 // The script: bytes to calls.
+
+#![tactic(auto)]
+
 ghost use Rattle.script.specs.Reading.{ReadsTheGrammar};
 
 pub mod line;

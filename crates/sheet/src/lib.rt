@@ -1,5 +1,8 @@
 // The answers and the sheet of a map, written into a buffer. The sheet is a line for each box, and a last line with the
 // volumes.
+
+#![tactic(auto)]
+
 ghost use Rattle.std.specs.Prelude.{◌≡◌, ◌≤◌, true, length, is_ok};
 ghost use Rattle.sheet.specs.Sheet.{box_line, answer_line, sheet_bytes, longest_line, longest_sheet};
 ghost use Rattle.sheet.specs.Wrote.{Written};

@@ -1,4 +1,7 @@
 // Why a witness that is taken can be believed: each function has a theorem for its contract.
+
+#![tactic(auto)]
+
 ghost use Rattle.theory.specs.Theorems.{SumIsValue, CornersDecide, SafeIsSafe, UnsafeIsUnsafe, SafeTakenExactly, UnsafeTakenExactly};
 ghost use Rattle.theory.specs.Runs.{RunsAreSound};
 

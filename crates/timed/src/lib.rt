@@ -1,4 +1,7 @@
 // Calls for a program in another language that measures them. Each answers 0, or the number of a refusal.
+
+#![tactic(auto)]
+
 ghost use Rattle.std.specs.Prelude.{◌≡◌, ℕ};
 ghost use Rattle.chain_format.specs.Format.{opened, taken};
 ghost use Rattle.timed.specs.Timed.{result_number, open_number, safe_number, unsafe_number, over_file, WritesAgain};

@@ -1,4 +1,7 @@
 // The judgement of a witness for a box of rates, corner by corner, in whole numbers.
+
+#![tactic(auto)]
+
 mod chances;
 mod claim;
 mod corner;

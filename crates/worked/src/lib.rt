@@ -1,4 +1,7 @@
 // Worked examples: small chains, and what the judgement of witnesses answers on them.
+
+#![tactic(auto)]
+
 ghost use Rattle.worked.specs.Examples.{Worked};
 
 pub mod samples;
