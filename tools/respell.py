@@ -595,14 +595,15 @@ NAMES = {
 }
 
 TOKEN = re.compile(r"[^\s(){}\[\].,;|\u231c\u231d\u00ab\u00bb\"]+")
-# a name behind one of these is made by Rattle: a step, a goal, a loop's variable
+# in a function's proof files a name behind one of these is made by Rattle: a step, a goal, a loop's variable
+PROOFS = ("Answers.antt", "Invariants.antt", "Choices.antt", "Proof.antt")
 MADE = re.compile(r"(?<![\w'.-])(?:c|l|goal|goal\.at)\.$")
 
 
-def respelled(line, keep):
+def respelled(line, keep, made=False):
     def new(m):
         name = m.group(0)
-        if name in keep or MADE.search(line[: m.start()]):
+        if name in keep or made and MADE.search(line[: m.start()]):
             return name
         return NAMES.get(name, name)
 
@@ -614,8 +615,8 @@ def goals(text):
     return set(re.findall(r"^(?:abbrev )?(?:pub )?([^\s:]+) : goal\.", text, re.M))
 
 
-def antt(text):
-    keep = goals(text)
+def antt(text, made):
+    keep = goals(text) if made else set()
     lines = []
     for line in text.split("\n"):
         code, dashes, comment = line, "", ""
@@ -623,7 +624,7 @@ def antt(text):
         if m:
             code, comment = line[: m.start()], line[m.start() :]
             comment = TOKEN.sub(lambda m: NAMES.get(m.group(0), m.group(0)) if re.search("[a-z][A-Z]", m.group(0)) else m.group(0), comment)
-        lines.append(respelled(code, keep) + comment)
+        lines.append(respelled(code, keep, made) + comment)
     return "\n".join(lines)
 
 
@@ -652,7 +653,8 @@ def main():
     for top, how in (("crates", None), ("docs", page), ("README.md", page)):
         paths = [top] if os.path.isfile(top) else [os.path.join(d, f) for d, _, fs in os.walk(top) for f in fs if "/out" not in d]
         for path in sorted(paths):
-            turn = how or (antt if path.endswith(".antt") else rt if path.endswith(".rt") else None)
+            made = path.endswith(PROOFS)
+            turn = how or ((lambda t: antt(t, made)) if path.endswith(".antt") else rt if path.endswith(".rt") else None)
             if turn is None or (how and not path.endswith(".md")):
                 continue
             with open(path, encoding="utf-8") as f:

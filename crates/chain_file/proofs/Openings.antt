@@ -21,13 +21,13 @@ short bs by o =
       laid.len_2,
       laid.len_3,
       laid.len_4,
-      l.marks-many,
-      l.rows-many,
-      l.numbers-lawful.states_few,
+      l.marks_many,
+      l.rows_many,
+      l.numbers_lawful.states_few,
       length-numbers version1 f.numbers,
       length-marks f.marks,
       length_offsets version1 f.rows,
-      rows_short version1 (omega arith) _ _ _ f.rows l.rows-lawful,
+      rows_short version1 (omega arith) _ _ _ f.rows l.rows_lawful,
     )
 
 -- ---- one state, which loops

@@ -68,9 +68,9 @@ laid-told v room bs by l1 l2 l3 l4 f d inside =
     let t1 = split w b1 (b2 ++ (b3 ++ (b4 ++ []))) (first v) all in
     let n1 : first v + length b1 ≡ marks_at v = omega (arith, length-numbers v k) in
     let t2 = split w b2 (b3 ++ (b4 ++ [])) (marks_at v) (rw n1 at t1.1) in
-    let n2 : marks_at v + length b2 ≡ marks_at v + n = omega (arith, length-marks f.marks, l.marks-many) in
+    let n2 : marks_at v + length b2 ≡ marks_at v + n = omega (arith, length-marks f.marks, l.marks_many) in
     let t3 = split w b3 (b4 ++ []) (marks_at v + n) (rw n2 at t2.1) in
-    let n3 : marks_at v + n + length b3 ≡ marks_at v + n + 4 * n = omega (arith, length_offsets v f.rows, l.rows-many) in
+    let n3 : marks_at v + n + length b3 ≡ marks_at v + n + 4 * n = omega (arith, length_offsets v f.rows, l.rows_many) in
     let t4 = split w b4 [] (marks_at v + n + 4 * n) (rw n3 at t3.1) in
     let a0 = split w (bytes_of v.wide n) _ (first v) t1.0 in
     let a1 = split w (bytes_of 1 k.rates) _ _ a0.1 in
@@ -78,19 +78,19 @@ laid-told v room bs by l1 l2 l3 l4 f d inside =
     let p1 : first v + length (bytes_of v.wide n) ≡ first v + v.wide = ap (λ x. first v + x) (length-bytes_of v.wide n) in
     let p2 : first v + length (bytes_of v.wide n) + length (bytes_of 1 k.rates) ≡ first v + v.wide + 1 = omega (arith, p1, length-bytes_of 1 k.rates) in
     let p3 : first v + length (bytes_of v.wide n) + length (bytes_of 1 k.rates) + length (bytes_of 2 k.unit) ≡ first v + v.wide + 3 = omega (arith, p2, length-bytes_of 2 k.unit) in
-    let short = rows_short v room.few n k.rates k.unit f.rows l.rows-lawful in
+    let short = rows_short v room.few n k.rates k.unit f.rows l.rows_lawful in
     let zero-on : marks_at v + n ≡ marks_at v + n + 4 * 0 = omega arith in
     let each_row = rows-each v room w by (marks_at v + n) (marks_at v + n + 4 * n) n k.rates k.unit few less f.rows 0 (marks_at v + n + 4 * n) 0 (omega arith)
-    (omega (arith, short, l.rows-many)) (rw zero-on at t3.0) l.rows-lawful in
+    (omega (arith, short, l.rows_many)) (rw zero-on at t3.0) l.rows_lawful in
     record {
       long = omega (arith, spelt_end w b3 _ t3.0);
       states = spelt_value w v.wide n (first v) (omega (arith, room.holds)) a0.0;
       rates = spelt_value w 1 k.rates _ (omega arith) (rw p1 at a1.0);
       unit = spelt_value w 2 k.unit _ (omega (arith, law.unit_few)) (rw p2 at a2.0);
       start = spelt_value w v.wide k.start _ (omega (arith, law.starts, room.holds)) (rw p3 at a2.1);
-      mark = λ s h. mark_spelt w f.marks (marks_at v) s t2.0 l.marks-lawful (omega (arith, l.marks-many));
+      mark = λ s h. mark_spelt w f.marks (marks_at v) s t2.0 l.marks_lawful (omega (arith, l.marks_many));
       row = λ s h.
-          let t = row_spelt v w (Placed v room w by (marks_at v + n) (marks_at v + n + 4 * n) n k.rates k.unit few less) f.rows 0 (marks_at v + n + 4 * n) s t4.0 each_row (omega (arith, l.rows-many)) in
+          let t = row_spelt v w (Placed v room w by (marks_at v + n) (marks_at v + n + 4 * n) n k.rates k.unit few less) f.rows 0 (marks_at v + n + 4 * n) s t4.0 each_row (omega (arith, l.rows_many)) in
           let r = get_or f.rows s no_row in
           let z : 0 + s ≡ s = omega arith in
           let here : row_at v bs n s ≡ t.0 = rw z at t.1.0 in

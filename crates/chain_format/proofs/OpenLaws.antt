@@ -178,12 +178,12 @@ row_short v few n m unit r l =
     let j = length r.rates in
     let rates : List ℕ = spell (each (bytes_of 1)) (λ _ x. x + 1) 0 r.rates in
     let edges : List ℕ = spell (each (edge_bytes v)) (λ _ e. e.successor + 1) 0 r.edges in
-    let size : 2 ^ j ≤ 8 = pow_mono l.rates-few in
+    let size : 2 ^ j ≤ 8 = pow_mono l.rates_few in
     let a : length edges ≤ 20 * length r.edges =
-    length_spell_le (each (edge_bytes v)) _ 20 (LawfulEdge (2 ^ j)) (λ _ e h. omega (arith, edge-length v (2 ^ j) e h)) 0 r.edges l.edges-lawful in
+    length_spell_le (each (edge_bytes v)) _ 20 (LawfulEdge (2 ^ j)) (λ _ e h. omega (arith, edge-length v (2 ^ j) e h)) 0 r.edges l.edges_lawful in
     let b : length rates ≡ 1 * length r.rates = length-spell (each (bytes_of 1)) _ 1 (λ _ x. length-bytes_of 1 x) 0 r.rates in
     let c : length (row_bytes v r) ≡ (1 + length rates) + (1 + length edges) = simp (length-append, length-bytes_of) in
-    omega (arith, l.edges_few, l.rates-few)
+    omega (arith, l.edges_few, l.rates_few)
 
 pub rows_short : (v : Version) → v.wide ≤ 4 → (n m unit : ℕ) (rs : List Row) → All (LawfulRow n m unit) rs → length (rows_bytes v rs) ≤ 165 * length rs
 rows_short v few n m unit rs a = length_spell_le (each (row_bytes v)) _ 165 (LawfulRow n m unit) (λ _ r h. row_short v few _ _ _ r h) 0 rs a
@@ -207,25 +207,25 @@ bodies_spelt v room bs by l1 l2 l3 l4 f r =
     let n1 : length b1 ≡ numbers_length v = length-numbers v k in
     let n2 : length b2 ≡ length f.marks = length-marks f.marks in
     let n3 : length b3 ≡ 4 * length f.rows = length_offsets v f.rows in
-    let n4 : length b4 ≤ 165 * length f.rows = rows_short v room.few _ _ _ f.rows l.rows-lawful in
-    let few = l.numbers-lawful.states_few in
-    let less = l.numbers-lawful.rates_few in
+    let n4 : length b4 ≤ 165 * length f.rows = rows_short v room.few _ _ _ f.rows l.rows_lawful in
+    let few = l.numbers_lawful.states_few in
+    let less = l.numbers_lawful.rates_few in
     let at3 = first v + length b1 + length b2 in
     let law = row_codec v room w by at3 (at3 + 4 * k.states) k.states k.rates k.unit few less in
-    let at4 : at3 + length b3 ≡ at3 + 4 * k.states = omega (arith, l.rows-many) in
+    let at4 : at3 + length b3 ≡ at3 + 4 * k.states = omega (arith, l.rows_many) in
     let ends : at3 + 4 * k.states + length b4 ≡ first v + l1 + l2 + l3 + l4 =
-    omega (arith, r.len_1, r.len_2, r.len_3, r.len_4, l.rows-many) in
+    omega (arith, r.len_1, r.len_2, r.len_3, r.len_4, l.rows_many) in
     cond_is _ (eq-eqb _ _ (r.len_1 ∙ n1))
     (after_is _ ((numbers_codec v room (part bs (first v + l1) BadNumbers) by).spells (first v) k
-    (moved bs _ BadRow _ BadNumbers b1 (first v) (omega (arith, r.len_1)) t1.0) l.numbers-lawful)
-    (cond_is _ (eq-eqb _ _ (r.len_2 ∙ n2 ∙ l.marks-many))
+    (moved bs _ BadRow _ BadNumbers b1 (first v) (omega (arith, r.len_1)) t1.0) l.numbers_lawful)
+    (cond_is _ (eq-eqb _ _ (r.len_2 ∙ n2 ∙ l.marks_many))
     (after_is _ ((marks_codec (part bs (first v + l1 + l2) BadMark) by k.states).spells _ f.marks
-    (moved bs _ BadRow _ BadMark b2 _ (omega (arith, r.len_1, r.len_2)) t2.0) (l.marks-many, l.marks-lawful))
-    (cond_is _ (eq-eqb _ _ (r.len_3 ∙ n3 ∙ ap (λ x. 4 * x) l.rows-many))
+    (moved bs _ BadRow _ BadMark b2 _ (omega (arith, r.len_1, r.len_2)) t2.0) (l.marks_many, l.marks_lawful))
+    (cond_is _ (eq-eqb _ _ (r.len_3 ∙ n3 ∙ ap (λ x. 4 * x) l.rows_many))
     (after_is _ ((repeat_codec w (λ s _. s + 1) law k.states 0).spells _ f.rows (rw at4 at t4.0) (
-      l.rows-many,
-      rows-each v room w by _ _ k.states k.rates k.unit few less f.rows 0 _ 0 (omega arith) (omega (arith, n4, l.rows-many, few))
-          (rw add-zero t3.0) l.rows-lawful,
+      l.rows_many,
+      rows-each v room w by _ _ k.states k.rates k.unit few less f.rows 0 _ 0 (omega arith) (omega (arith, n4, l.rows_many, few))
+          (rw add-zero t3.0) l.rows_lawful,
     ))
     (cond_is _ (eq-eqb _ _ ends) (ap (λ t. got f t) ends)))))))
 
@@ -339,7 +339,7 @@ opened_spelt bs f l e =
     let n1 = length-numbers v k in
     let n2 = length-marks f.marks in
     let n3 = length_offsets v f.rows in
-    let n4 = rows_short v (omega arith) k.states k.rates k.unit f.rows l.rows-lawful in
+    let n4 = rows_short v (omega arith) k.states k.rates k.unit f.rows l.rows_lawful in
     let laid : Laid v bs _ _ _ _ f =
     record {
       len_1 = refl;

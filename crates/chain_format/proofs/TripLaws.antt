@@ -12,7 +12,7 @@ use Rattle.chain_format.proofs.OpenLaws.{LawfulFile, file_bytes, opened_read, op
 
 pub file_lawful : (f : File) → LawfulFile f → Lawful (meaning f)
 file_lawful f l =
-    let n = l.numbers-lawful in
+    let n = l.numbers_lawful in
     record {
       states_some = n.states_some;
       states_few = n.states_few;
@@ -21,8 +21,8 @@ file_lawful f l =
       unit_some = n.unit_some;
       unit_few = n.unit_few;
       starts = n.starts;
-      marks = λ s h. All-get_or (λ v. v ≤ 1) f.marks s 0 (omega (arith, l.marks-many)) l.marks-lawful;
-      rows = λ s h. All-get_or (LawfulRow _ _ _) f.rows s no_row (omega (arith, l.rows-many)) l.rows-lawful;
+      marks = λ s h. All-get_or (λ v. v ≤ 1) f.marks s 0 (omega (arith, l.marks_many)) l.marks_lawful;
+      rows = λ s h. All-get_or (LawfulRow _ _ _) f.rows s no_row (omega (arith, l.rows_many)) l.rows_lawful;
     }
 
 all_counted : {X : Type 0} (P : X → Type 0) (g : ℕ → X) (n : ℕ) (d : X) → ((s : ℕ) → s < n → P (g s)) → All P (map g (range_with_len 0 n))
@@ -36,12 +36,12 @@ lawful_file c l =
     record {
       numbers_lawful =
           record {
-            states_some = l.states-some;
-            states_few = l.states-few;
-            rates_some = l.rates-some;
-            rates_few = l.rates-few;
-            unit_some = l.unit-some;
-            unit_few = l.unit-few;
+            states_some = l.states_some;
+            states_few = l.states_few;
+            rates_some = l.rates_some;
+            rates_few = l.rates_few;
+            unit_some = l.unit_some;
+            unit_few = l.unit_few;
             starts = l.starts;
           };
       marks_many = length-map-range_with_len c.mark 0 c.states;
@@ -52,8 +52,8 @@ lawful_file c l =
 
 file_of_lem : (f : File) → LawfulFile f → file_of (meaning f) ≡ f
 file_of_lem f l =
-    let m = fill_by_all (λ s. get_or f.marks s 0) f.marks f.numbers.states 0 l.marks-many (λ _ _. refl) in
-    let r = fill_by_all (λ s. get_or f.rows s no_row) f.rows f.numbers.states no_row l.rows-many (λ _ _. refl) in
+    let m = fill_by_all (λ s. get_or f.marks s 0) f.marks f.numbers.states 0 l.marks_many (λ _ _. refl) in
+    let r = fill_by_all (λ s. get_or f.rows s no_row) f.rows f.numbers.states no_row l.rows_many (λ _ _. refl) in
     rw (← m, ← r)
 
 -- ---- there and back

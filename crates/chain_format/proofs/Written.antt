@@ -65,7 +65,7 @@ edges_length v size f s (e ∷ es) a =
 pub row-length : (v : Version) (n m unit : ℕ) (r : Row) → LawfulRow n m unit r
     → length (row_bytes v r) ≡ 2 + length r.rates + (v.wide + 2 * 2 ^ length r.rates) * length r.edges
 row-length v n m unit r l =
-    let a = edges_length v (2 ^ length r.rates) (λ _ e. e.successor + 1) 0 r.edges l.edges-lawful in
+    let a = edges_length v (2 ^ length r.rates) (λ _ e. e.successor + 1) 0 r.edges l.edges_lawful in
     let b = length-spell (each (bytes_of 1)) (λ _ x. x + 1) 1 (λ _ x. length-bytes_of 1 x) 0 r.rates in
     let c : length (row_bytes v r) ≡ (1 + length (spell (each (bytes_of 1)) (λ _ x. x + 1) 0 r.rates)) + (1 + length (spell (each (edge_bytes v)) (λ _ e. e.successor + 1) 0 r.edges)) = simp (length-append, length-bytes_of) in
     omega arith

@@ -31,7 +31,7 @@ record_bytes_lem : (v : Version) (n m unit : ℕ) (x : Row) → LawfulRow n m un
 record_bytes_lem v n m unit x l =
     let a = take_at x.rates (replicate (3 - length x.rates) 0) (length x.rates) refl in
     let b = take_at (map filled_edge x.edges) (replicate (8 - length (map filled_edge x.edges)) no_edge) (length x.edges) (length-map x.edges filled_edge) in
-    rw (a, b, spell-each (bytes_of 1) stay (λ _ r. r + 1) 0 0 x.rates, edges_same v (2 ^ length x.rates) (λ _ e. e.successor + 1) 0 x.edges l.edges-lawful) refl
+    rw (a, b, spell-each (bytes_of 1) stay (λ _ r. r + 1) 0 0 x.rates, edges_same v (2 ^ length x.rates) (λ _ e. e.successor + 1) 0 x.edges l.edges_lawful) refl
 
 -- the record that a chain fills for a state
 pub told_bytes : (v : Version) (c : Meaning) → Lawful c → (i : ℕ) → i < c.states → (r : RowRecord) → r ≡ filled (c.row i) → record_bytes v r ≡ row_bytes v (c.row i)
