@@ -7,6 +7,6 @@ returns g c =
     let m = g.C.Chain.meaning c.args.chain.now in
     let l = g.C.Chain.lawful c.args.chain.now in
     record {
-      exact = encode-length m _ _ c.states-states.ensures c.rows-length.ensures.size;
-      most = omega (arith, c.states-states.ensures, c.rows-length.ensures.most, l.states-few);
+      exact = encode-length m _ _ c.states-states.ensures c.rows_length.ensures.size;
+      most = omega (arith, c.states-states.ensures, c.rows_length.ensures.most, l.states_few);
     }

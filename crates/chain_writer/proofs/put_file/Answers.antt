@@ -12,32 +12,32 @@ use Rattle.chain_writer.proofs.put_file.Goals as goal
 total : (m : Meaning) → 51 + m.states + 4 * m.states + length (rows_to version1 m m.states) ≡ length (encode m)
 total m = encode-length m _ _ refl refl
 
-pub overflow-sub-size : goal.overflow-sub-size
-overflow-sub-size g c =
+pub overflow_sub-size : goal.overflow_sub-size
+overflow_sub-size g c =
     omega (arith, total (g.C.Chain.meaning c.args.chain.now), c.requires.0, c.states-states.ensures)
 
-pub put-contents-requires : goal.put-contents-requires
-put-contents-requires g c =
+pub put_contents-requires : goal.put_contents-requires
+put_contents-requires g c =
     let few = (g.C.Chain.lawful c.args.chain.now).states_few in (
       omega (arith, total (g.C.Chain.meaning c.args.chain.now), c.requires.0),
       omega (arith, few, c.states-states.ensures),
     )
 
-pub put-numbers-requires : goal.put-numbers-requires
-put-numbers-requires g c =
-    omega (arith, total (g.C.Chain.meaning c.args.chain.now), c.requires.0, c.put-contents.auto.buffer)
+pub put_numbers-requires : goal.put_numbers-requires
+put_numbers-requires g c =
+    omega (arith, total (g.C.Chain.meaning c.args.chain.now), c.requires.0, c.put_contents.auto.buffer)
 
-pub put-marks-requires : goal.put-marks-requires
-put-marks-requires g c =
-    omega (arith, total (g.C.Chain.meaning c.args.chain.now), c.requires.0, c.put-contents.auto.buffer, c.put-numbers.auto.buffer)
+pub put_marks-requires : goal.put_marks-requires
+put_marks-requires g c =
+    omega (arith, total (g.C.Chain.meaning c.args.chain.now), c.requires.0, c.put_contents.auto.buffer, c.put_numbers.auto.buffer)
 
-pub put-offsets-requires : goal.put-offsets-requires
-put-offsets-requires g c =
-    omega (arith, total (g.C.Chain.meaning c.args.chain.now), c.requires.0, c.states-states.ensures, c.put-contents.auto.buffer, c.put-numbers.auto.buffer, c.put-marks.auto.buffer)
+pub put_offsets-requires : goal.put_offsets-requires
+put_offsets-requires g c =
+    omega (arith, total (g.C.Chain.meaning c.args.chain.now), c.requires.0, c.states-states.ensures, c.put_contents.auto.buffer, c.put_numbers.auto.buffer, c.put_marks.auto.buffer)
 
-pub put-rows-requires : goal.put-rows-requires
-put-rows-requires g c =
-    omega (arith, total (g.C.Chain.meaning c.args.chain.now), c.requires.0, c.states-states.ensures, c.put-contents.auto.buffer, c.put-numbers.auto.buffer, c.put-marks.auto.buffer, c.put-offsets.auto.buffer)
+pub put_rows-requires : goal.put_rows-requires
+put_rows-requires g c =
+    omega (arith, total (g.C.Chain.meaning c.args.chain.now), c.requires.0, c.states-states.ensures, c.put_contents.auto.buffer, c.put_numbers.auto.buffer, c.put_marks.auto.buffer, c.put_offsets.auto.buffer)
 
 pub returns : goal.returns
 returns g c =
@@ -51,10 +51,10 @@ returns g c =
     let all : Wrote _ _ (encode m) =
     wrote_all _ _ _
     (appends_like _ _ _ _ _ (encode-split m n r en er)
-    (appends_more _ _ _ 0 44 (contents_bytes version1 (7 ∷ n ∷ 4 * n ∷ r ∷ [])) _ (omega (arith, length-contents version1 (7 ∷ n ∷ 4 * n ∷ r ∷ []))) c.put-contents.ensures
-    (appends_more _ _ _ 44 51 (numbers_bytes version1 (file_of m).numbers) _ (omega (arith, length-numbers version1 (file_of m).numbers)) c.put-numbers.ensures
-    (appends_more _ _ _ 51 (51 + n) (marks_to m) _ (omega (arith, marks-length m, en)) c.put-marks.ensures
-    (appends_more _ _ _ (51 + n) (51 + n + 4 * n) (offsets_to version1 m m.states) _ (omega (arith, offsets_to-length version1 m m.states, en)) c.put-offsets.ensures
-    (appends_like _ _ _ _ _ (sym (append-nil (rows_to version1 m m.states))) c.put-rows.ensures)))))) in
+    (appends_more _ _ _ 0 44 (contents_bytes version1 (7 ∷ n ∷ 4 * n ∷ r ∷ [])) _ (omega (arith, length-contents version1 (7 ∷ n ∷ 4 * n ∷ r ∷ []))) c.put_contents.ensures
+    (appends_more _ _ _ 44 51 (numbers_bytes version1 (file_of m).numbers) _ (omega (arith, length-numbers version1 (file_of m).numbers)) c.put_numbers.ensures
+    (appends_more _ _ _ 51 (51 + n) (marks_to m) _ (omega (arith, marks-length m, en)) c.put_marks.ensures
+    (appends_more _ _ _ (51 + n) (51 + n + 4 * n) (offsets_to version1 m m.states) _ (omega (arith, offsets_to-length version1 m m.states, en)) c.put_offsets.ensures
+    (appends_like _ _ _ _ _ (sym (append-nil (rows_to version1 m m.states))) c.put_rows.ensures)))))) in
     let t = write_then_read m (g.C.Chain.lawful c.args.chain.now) in
     record { written = all; again = rw (wrote_front _ _ _ k ek all) (t.1, t.2) }

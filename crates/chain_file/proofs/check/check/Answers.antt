@@ -9,32 +9,32 @@ use Rattle.chain_format.proofs.OpenLaws.{opened-is}
 use Rattle.chain_format.proofs.Steps.{then_got, then_cut, checked_yes, checked_no}
 use Rattle.chain_file.proofs.check.check.Goals as goal
 
-pub returns-in-err-l : goal.returns-in-err-l
-returns-in-err-l c =
-    let p = err_from_is_err_and c.from-residual.result c.from-residual.ensures.1 in
-    rw (p.1, p.2) (opened-is _ ∙ then_cut _ _ _ _ c.in-err-l.ensures)
+pub returns-in_err-l : goal.returns-in_err-l
+returns-in_err-l c =
+    let p = err_from_is_err_and c.from_residual.result c.from_residual.ensures.1 in
+    rw (p.1, p.2) (opened-is _ ∙ then_cut _ _ _ _ c.in_err-l.ensures)
 
 pub returns-then-l-end : goal.returns-then-l-end
 returns-then-l-end c =
-    opened-is _ ∙ then_got _ _ _ _ _ c.in-ok-l.ensures.0 ∙ checked_no _ _ _ _ (ne_eqb _ _ (λ e. c.if-l-end.true (omega (arith, e))))
+    opened-is _ ∙ then_got _ _ _ _ _ c.in_ok-l.ensures.0 ∙ checked_no _ _ _ _ (ne_eqb _ _ (λ e. c.if-l-end.true (omega (arith, e))))
 
 pub returns-then-l-ne7 : goal.returns-then-l-ne7
 returns-then-l-ne7 c =
-    opened-is _ ∙ then_got _ _ _ _ _ c.in-ok-l.ensures.0 ∙ checked_yes _ _ _ _ (eq-eqb _ _ (omega (arith, c.if-l-end.false)))
+    opened-is _ ∙ then_got _ _ _ _ _ c.in_ok-l.ensures.0 ∙ checked_yes _ _ _ _ (eq-eqb _ _ (omega (arith, c.if-l-end.false)))
     ∙ checked_no _ _ _ _ (ne_eqb _ _ c.if-l-ne7.true)
 
-pub returns-in-err-n : goal.returns-in-err-n
-returns-in-err-n c =
-    let p = err_from_is_err_and c.from-residual-in-err-n.result c.from-residual-in-err-n.ensures.1 in
+pub returns-in_err-n : goal.returns-in_err-n
+returns-in_err-n c =
+    let p = err_from_is_err_and c.from_residual-in_err-n.result c.from_residual-in_err-n.ensures.1 in
     rw (p.1, p.2)
-    (opened-is _ ∙ then_got _ _ _ _ _ c.in-ok-l.ensures.0 ∙ checked_yes _ _ _ _ (eq-eqb _ _ (omega (arith, c.if-l-end.false)))
-    ∙ checked_yes _ _ _ _ (eq-eqb _ _ c.if-l-ne7.false) ∙ then_cut _ _ _ _ c.in-err-n.ensures)
+    (opened-is _ ∙ then_got _ _ _ _ _ c.in_ok-l.ensures.0 ∙ checked_yes _ _ _ _ (eq-eqb _ _ (omega (arith, c.if-l-end.false)))
+    ∙ checked_yes _ _ _ _ (eq-eqb _ _ c.if-l-ne7.false) ∙ then_cut _ _ _ _ c.in_err-n.ensures)
 
 pub returns : goal.returns
 returns c =
-    let front = opened-is _ ∙ then_got _ _ _ _ _ c.in-ok-l.ensures.0 ∙ checked_yes _ _ _ _ (eq-eqb _ _ (omega (arith, c.if-l-end.false)))
-    ∙ checked_yes _ _ _ _ (eq-eqb _ _ c.if-l-ne7.false) ∙ then_got _ _ _ _ _ c.in-ok-n.ensures.0 in
-    MatchResult-weaker c.check-from-marks.result c.check-from-marks.ensures
+    let front = opened-is _ ∙ then_got _ _ _ _ _ c.in_ok-l.ensures.0 ∙ checked_yes _ _ _ _ (eq-eqb _ _ (omega (arith, c.if-l-end.false)))
+    ∙ checked_yes _ _ _ _ (eq-eqb _ _ c.if-l-ne7.false) ∙ then_got _ _ _ _ _ c.in_ok-n.ensures.0 in
+    MatchResult-weaker c.check_from_marks.result c.check_from_marks.ensures
     (λ _ h.
     let o = front ∙ h.1 in
     let fits : Bytes c.args.bytes.now = search rules in

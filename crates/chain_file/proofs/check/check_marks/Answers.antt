@@ -3,15 +3,15 @@ use Rattle.std.proofs.lemmas.Result.{err_from_is_err_and}
 use Rattle.chain_format.proofs.Loops.{reached_more, reached_all, reached_stop}
 use Rattle.chain_file.proofs.check.check_marks.Goals as goal
 
-pub returns-in-err-field-at : goal.returns-in-err-field-at
-returns-in-err-field-at c =
-    let p = err_from_is_err_and c.from-residual.result c.from-residual.ensures.1 in
+pub returns-in_err-field_at : goal.returns-in_err-field_at
+returns-in_err-field_at c =
+    let p = err_from_is_err_and c.from_residual.result c.from_residual.ensures.1 in
     let l : c.loop-s.s < c.args.states = omega arith in
-    rw (p.1, p.2) (reached_stop _ _ _ _ _ _ _ _ _ c.loop-s.invariant l c.in-err-field-at.ensures)
+    rw (p.1, p.2) (reached_stop _ _ _ _ _ _ _ _ _ c.loop-s.invariant l c.in_err-field_at.ensures)
 
 pub loop-s-preserved : goal.loop-s-preserved
 loop-s-preserved c =
-    let f = c.in-ok-field-at.ensures in
+    let f = c.in_ok-field_at.ensures in
     let e : c.args.at + c.loop-s.s + 1 ≡ c.args.at + (c.loop-s.s + 1) = omega arith in
     rw e at (reached_more _ _ _ _ _ _ _ _ _ _ c.loop-s.invariant f.0 refl)
 

@@ -4,20 +4,20 @@ use Rattle.chain_format.proofs.Steps.{checked_no, checked_yes, tested-cut, teste
 use Rattle.chain_file.proofs.Fills.{sums_are}
 use Rattle.chain_file.proofs.check.check_row.Goals as goal
 
-pub returns-then-not-leads-to : goal.returns-then-not-leads-to
-returns-then-not-leads-to c = checked_no _ _ _ _ (sym c.if-not-leads-to.ensures)
+pub returns-then-not-leads_to : goal.returns-then-not-leads_to
+returns-then-not-leads_to c = checked_no _ _ _ _ (sym c.if-not-leads_to.ensures)
 
-pub returns-in-err-found : goal.returns-in-err-found
-returns-in-err-found c =
-    let p = err_from_is_err_and c.from-residual.result c.from-residual.ensures.1 in
-    rw (p.1, p.2) (checked_yes _ _ _ _ (sym c.if-not-leads-to.ensures) ∙ tested-cut _ _ _ _ _ c.in-err-found.ensures)
+pub returns-in_err-found : goal.returns-in_err-found
+returns-in_err-found c =
+    let p = err_from_is_err_and c.from_residual.result c.from_residual.ensures.1 in
+    rw (p.1, p.2) (checked_yes _ _ _ _ (sym c.if-not-leads_to.ensures) ∙ tested-cut _ _ _ _ _ c.in_err-found.ensures)
 
 pub returns-then-not-tally : goal.returns-then-not-tally
 returns-then-not-tally c =
-    let f = c.in-ok-found.ensures in
-    checked_yes _ _ _ _ (sym c.if-not-leads-to.ensures) ∙ tested_no _ _ _ _ f.0 _ f.1 (sums_are _ f.0 _ _ _ f.2 c.power.ensures.0 c.if-not-tally.ensures)
+    let f = c.in_ok-found.ensures in
+    checked_yes _ _ _ _ (sym c.if-not-leads_to.ensures) ∙ tested_no _ _ _ _ f.0 _ f.1 (sums_are _ f.0 _ _ _ f.2 c.power.ensures.0 c.if-not-tally.ensures)
 
 pub returns : goal.returns
 returns c =
-    let f = c.in-ok-found.ensures in
-    (f.0, checked_yes _ _ _ _ (sym c.if-not-leads-to.ensures) ∙ tested_yes _ _ _ _ f.0 _ f.1 (sums_are _ f.0 _ _ _ f.2 c.power.ensures.0 c.if-not-tally.ensures), f.3, f.5)
+    let f = c.in_ok-found.ensures in
+    (f.0, checked_yes _ _ _ _ (sym c.if-not-leads_to.ensures) ∙ tested_yes _ _ _ _ f.0 _ f.1 (sums_are _ f.0 _ _ _ f.2 c.power.ensures.0 c.if-not-tally.ensures), f.3, f.5)

@@ -23,17 +23,17 @@ signed v l h =
     high_is v l h ∙ sym high
 
 pub returns-then-value-le8000 : goal.returns-then-value-le8000
-returns-then-value-le8000 c = (reads _ _ _ _ (omega arith) c.value-at-value.ensures.value (grind (arith, nat_tests, c.if-value-le8000.true)), omega arith)
+returns-then-value-le8000 c = (reads _ _ _ _ (omega arith) c.value_at-value.ensures.value (grind (arith, nat_tests, c.if-value-le8000.true)), omega arith)
 
 pub returns-then-value-ge57536 : goal.returns-then-value-ge57536
 returns-then-value-ge57536 c = (
-  reads _ _ _ _ (omega arith) c.value-at-value.ensures.value (grind (arith, nat_tests, c.if-value-ge57536.true))
-      ∙ ap (λ z. got z (c.args.at + 2)) (sym (signed _ c.if-value-ge57536.true c.value-at-value.ensures.under)),
+  reads _ _ _ _ (omega arith) c.value_at-value.ensures.value (grind (arith, nat_tests, c.if-value-ge57536.true))
+      ∙ ap (λ z. got z (c.args.at + 2)) (sym (signed _ c.if-value-ge57536.true c.value_at-value.ensures.under)),
   omega arith,
 )
 
 pub returns : goal.returns
 returns c =
-    let e = c.value-at-value.ensures.value in
+    let e = c.value_at-value.ensures.value in
     mapped-cut (to_z w16) _ _ _ (field_wrong (part c.args.bytes.now c.args.end BadRow) 2 small c.args.at (omega arith)
     (ap small (sym e) ∙ grind (arith, nat_tests, c.if-value-le8000.false, c.if-value-ge57536.false)))

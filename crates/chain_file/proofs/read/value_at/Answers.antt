@@ -9,27 +9,27 @@ returns-then-width-eq0 c =
 
 pub returns-then-width-eq1 : goal.returns-then-width-eq1
 returns-then-width-eq1 c =
-    let b = c.type-inv.bytes c.args.at in
+    let b = c.type_inv.bytes c.args.at in
     record { value = rw c.if-width-eq1.true (sym (value_1 _ _)); under = rw c.if-width-eq1.true (omega arith) }
 
 pub returns-then-width-eq2 : goal.returns-then-width-eq2
 returns-then-width-eq2 c =
-    let b = c.type-inv.bytes c.args.at in
-    let d = c.type-inv.bytes (c.args.at + 1) in
+    let b = c.type_inv.bytes c.args.at in
+    let d = c.type_inv.bytes (c.args.at + 1) in
     record { value = rw c.if-width-eq2.true (omega (arith, value_2 c.args.bytes.now c.args.at)); under = rw c.if-width-eq2.true (omega arith) }
 
 pub returns-then-width-eq3 : goal.returns-then-width-eq3
 returns-then-width-eq3 c =
-    let b = c.type-inv.bytes c.args.at in
-    let d = c.type-inv.bytes (c.args.at + 1) in
-    let e = c.type-inv.bytes (c.args.at + 2) in
+    let b = c.type_inv.bytes c.args.at in
+    let d = c.type_inv.bytes (c.args.at + 1) in
+    let e = c.type_inv.bytes (c.args.at + 2) in
     record { value = rw c.if-width-eq3.true (omega (arith, value_3 c.args.bytes.now c.args.at)); under = rw c.if-width-eq3.true (omega arith) }
 
 pub returns : goal.returns
 returns c =
     let w : c.args.width ≡ 4 = omega arith in
-    let b = c.type-inv.bytes c.args.at in
-    let d = c.type-inv.bytes (c.args.at + 1) in
-    let e = c.type-inv.bytes (c.args.at + 2) in
-    let f = c.type-inv.bytes (c.args.at + 3) in
+    let b = c.type_inv.bytes c.args.at in
+    let d = c.type_inv.bytes (c.args.at + 1) in
+    let e = c.type_inv.bytes (c.args.at + 2) in
+    let f = c.type_inv.bytes (c.args.at + 3) in
     record { value = rw w (omega (arith, value_4 c.args.bytes.now c.args.at)); under = rw w (omega arith) }

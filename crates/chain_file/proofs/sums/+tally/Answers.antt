@@ -18,4 +18,4 @@ pub returns : goal.returns
 returns t c =
     let m = tallied_more c.args.unit c.args.edges.now c.args.k (omega arith) in
     let n : tallied c.args.unit c.args.edges.now (c.args.k - 1) ≡ true = sym c.if-not-tally.ensures in
-    same_from_decides _ _ c.adds-up.ensures (eqℤ-is _ _) ∙ rw (m, n) refl
+    same_from_decides _ _ c.adds_up.ensures (eqℤ-is _ _) ∙ rw (m, n) refl

@@ -12,4 +12,4 @@ returns t c =
     let b = c.args.buffer.now in
     let l : c.args.at < length b = omega arith in
     rw (bytes_of_more c.args.width c.args.value h)
-    (appends_more b _ _ c.args.at (c.args.at + 1) (c.args.value % 256 ∷ []) _ (omega arith) (appends_one b c.args.at (c.args.value % 256) l) c.put-number.ensures)
+    (appends_more b _ _ c.args.at (c.args.at + 1) (c.args.value % 256 ∷ []) _ (omega arith) (appends_one b c.args.at (c.args.value % 256) l) c.put_number.ensures)

@@ -11,7 +11,7 @@ returns c =
     let z : c.args.size - 0 ≡ c.args.size = omega arith in
     record {
       written =
-          appends_more _ _ _ c.args.at (c.args.at + 2) (bytes_of 2 e.successor) _ (omega (arith, length-bytes_of 2 e.successor)) c.put-number.ensures
-          (appends_like _ _ _ _ _ (ap (λ k. spell (each coefficient_bytes) stay 0 (take k e.coefficients)) z) c.put-coefficients.ensures);
+          appends_more _ _ _ c.args.at (c.args.at + 2) (bytes_of 2 e.successor) _ (omega (arith, length-bytes_of 2 e.successor)) c.put_number.ensures
+          (appends_like _ _ _ _ _ (ap (λ k. spell (each coefficient_bytes) stay 0 (take k e.coefficients)) z) c.put_coefficients.ensures);
       sized = search rules;
     }

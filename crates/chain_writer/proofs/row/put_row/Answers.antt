@@ -23,8 +23,8 @@ returns c =
     let b2 = length-bytes_of 1 k in
     let front : length (bytes_of 1 j ++ rates) ≡ 1 + j = length-append (bytes_of 1 j) rates ∙ omega arith in
     appends_more _ _ _ at (at + 1 + j) (bytes_of 1 j ++ rates) _ (omega arith)
-    (appends_more _ _ _ at (at + 1) (bytes_of 1 j) rates (omega arith) c.put-number.ensures
-    (appends_like _ _ _ _ _ (ap (λ m. spell (each (bytes_of 1)) stay 0 (take m r.rates)) z) c.put-bytes.ensures))
-    (appends_more _ _ _ (at + 1 + j) (at + 1 + j + 1) (bytes_of 1 k) _ (omega arith) c.put-number-2.ensures
-    (appends_like _ _ _ _ _ (ap (λ m. spell (each (edge_record_bytes version1 c.coefficient-count.result)) stay 0 (take m r.edges)) y ∙ ap (λ s. spell (each (edge_record_bytes version1 s)) stay 0 (take k r.edges)) c.coefficient-count.ensures.0)
-    c.put-edges.ensures))
+    (appends_more _ _ _ at (at + 1) (bytes_of 1 j) rates (omega arith) c.put_number.ensures
+    (appends_like _ _ _ _ _ (ap (λ m. spell (each (bytes_of 1)) stay 0 (take m r.rates)) z) c.put_bytes.ensures))
+    (appends_more _ _ _ (at + 1 + j) (at + 1 + j + 1) (bytes_of 1 k) _ (omega arith) c.put_number-2.ensures
+    (appends_like _ _ _ _ _ (ap (λ m. spell (each (edge_record_bytes version1 c.coefficient_count.result)) stay 0 (take m r.edges)) y ∙ ap (λ s. spell (each (edge_record_bytes version1 s)) stay 0 (take k r.edges)) c.coefficient_count.ensures.0)
+    c.put_edges.ensures))

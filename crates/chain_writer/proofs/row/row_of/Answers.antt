@@ -12,6 +12,6 @@ returns g c =
     let l = (g.C.Chain.lawful c.args.chain.now).rows c.args.state c.requires in
     record {
       same = e;
-      rates = omega (arith, ap (λ (r : RowRecord). r.rate_count) e, l.rates-few);
-      edges = omega (arith, ap (λ (r : RowRecord). r.edge_count) e, l.edges-few);
+      rates = omega (arith, ap (λ (r : RowRecord). r.rate_count) e, l.rates_few);
+      edges = omega (arith, ap (λ (r : RowRecord). r.edge_count) e, l.edges_few);
     }

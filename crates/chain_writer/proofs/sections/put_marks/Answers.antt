@@ -16,6 +16,6 @@ loop-state-preserved g c =
     let n = length-counted (bytes_of 1) stay f 1 i (length-bytes_of 1) in
     rw (counted_push (bytes_of 1) stay f i)
     (elim c.match-mark.branch [
-      | in-Ok w ↦ rw (w.buffer-is, ← w.in-Ok.ensures.1) (appends_more _ _ _ c.args.at (c.args.at + i) _ _ (omega (arith, n)) c.loop-state.invariant w.put-number.ensures)
+      | in-Ok w ↦ rw (w.buffer-is, ← w.in-Ok.ensures.1) (appends_more _ _ _ c.args.at (c.args.at + i) _ _ (omega (arith, n)) c.loop-state.invariant w.put_number.ensures)
       | in-default w ↦ absurd (omega (arith, w.in-default.ensures.0, c.states-states.ensures))
     ])

@@ -16,10 +16,10 @@ loop-state-preserved g c =
     let m = g.C.Chain.meaning c.args.chain.now in
     let i = c.loop-state.state in
     let l : i < m.states = omega (arith, c.states-states.ensures) in
-    let more = told_more version1 m (g.C.Chain.lawful c.args.chain.now) i l c.row-of-row.result c.row-of-row.ensures.same in (
-      omega (arith, more, c.loop-state.invariant.0, c.row-length-offset.ensures.0),
-      omega (arith, c.loop-state.invariant.1, c.row-length-offset.ensures.1),
+    let more = told_more version1 m (g.C.Chain.lawful c.args.chain.now) i l c.row_of-row.result c.row_of-row.ensures.same in (
+      omega (arith, more, c.loop-state.invariant.0, c.row_length-offset.ensures.0),
+      omega (arith, c.loop-state.invariant.1, c.row_length-offset.ensures.1),
       appends_like _ _ _ _ _ (sym (offsets_to_more version1 m i))
           (appends_more _ _ _ c.args.at (c.args.at + 4 * i) (offsets_to version1 m i) _ (omega (arith, offsets_to-length version1 m i)) c.loop-state.invariant.2
-          (appends_like _ _ _ _ _ (ap (bytes_of 4) c.loop-state.invariant.0) c.put-number.ensures)),
+          (appends_like _ _ _ _ _ (ap (bytes_of 4) c.loop-state.invariant.0) c.put_number.ensures)),
     )

@@ -12,5 +12,5 @@ loop-state-preserved g c =
     let m = g.C.Chain.meaning c.args.chain.now in
     let i = c.loop-state.state in
     let l : i < m.states = omega (arith, c.states-states.ensures) in
-    let more = told_more version1 m (g.C.Chain.lawful c.args.chain.now) i l c.row-of-row.result c.row-of-row.ensures.same in
-    (omega (arith, more, c.loop-state.invariant.0, c.row-length-size.ensures.0), omega (arith, c.loop-state.invariant.1, c.row-length-size.ensures.1))
+    let more = told_more version1 m (g.C.Chain.lawful c.args.chain.now) i l c.row_of-row.result c.row_of-row.ensures.same in
+    (omega (arith, more, c.loop-state.invariant.0, c.row_length-size.ensures.0), omega (arith, c.loop-state.invariant.1, c.row_length-size.ensures.1))

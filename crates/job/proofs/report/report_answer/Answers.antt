@@ -6,4 +6,4 @@ pub returns : goal.returns
 returns c =
     let out = vec_items c.args.out.now in
     let h = c.in-Ok.ensures.written in
-    c.extend-from-slice.ensures.items ∙ ap (λ t. cond (is_ok c.extend-from-slice.result) (out ++ t) out) (written_front _ _ _ _ h.0 h.2)
+    c.extend_from_slice.ensures.items ∙ ap (λ t. cond (is_ok c.extend_from_slice.result) (out ++ t) out) (written_front _ _ _ _ h.0 h.2)

@@ -20,11 +20,11 @@ loop-i-preserved c =
     elim c.match-step.branch [
       | in-Bad+in-ok-report-answer w ↦
           reported_at (ap vec_items w.out-is) w.next-is
-          (reported_bad c.loop-i.invariant (omega (arith, c.len-i-end.ensures, count_said c.args.states c.args.script.now, c.loop-i-test.true)) w.in-Bad.ensures _ w.in-ok-report-answer.ensures)
+          (reported_bad c.loop-i.invariant (omega (arith, c.len-i-end.ensures, count_said c.args.states c.args.script.now, c.loop-i-test.true)) w.in-Bad.ensures _ w.in_ok-report_answer.ensures)
       | in-Do+else-next-answers+in-ok-report-answer-2 w ↦
           reported_at (ap vec_items w.out-is) w.next-is
           (reported_call c.loop-i.invariant (omega (arith, c.len-i-end.ensures, count_said c.args.states c.args.script.now, c.loop-i-test.true)) _ w.in-Do.ensures w.if-next-answers.false _
-          (w.in-ok-report-answer-2.ensures ∙ ap (λ b. vec_items c.loop-i.out ++ answer_line b c.args.rates _) w.box-of.ensures))
+          (w.in_ok-report_answer-2.ensures ∙ ap (λ b. vec_items c.loop-i.out ++ answer_line b c.args.rates _) w.box_of.ensures))
     ]
 
 pub returns : goal.returns

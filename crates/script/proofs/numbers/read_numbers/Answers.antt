@@ -10,4 +10,4 @@ returns c =
     let text = c.args.text.now in
     let some : 0 < length text = search rules in
     let e = first_rest text 0 some ∙ ap (λ b. b ∷ between 1 (length text) text) c.if-first-ne32.false in
-    IfOk-weaker c.read-spaced.result _ _ (λ well h. adds_like _ _ well (sym (numbers-spaced text _ e)) h) c.read-spaced.ensures
+    IfOk-weaker c.read_spaced.result _ _ (λ well h. adds_like _ _ well (sym (numbers-spaced text _ e)) h) c.read_spaced.ensures

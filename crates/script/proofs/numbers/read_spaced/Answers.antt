@@ -11,7 +11,7 @@ loop-byte-init c = (omega arith, omega arith, ([], sym (append-nil _), reached_n
 pub returns-then-count-ge10 : goal.returns-then-count-ge10
 returns-then-count-ge10 c =
     let i = c.loop-byte.invariant.2 in
-    (i.0, stuck_digit i.2 c.loop-byte-test.true (sym c.is-digit.ensures ∙ c.if-is-digit.true) (⊎_elim inl (λ h. inr h.1) c.then-count-ge10.either), i.1)
+    (i.0, stuck_digit i.2 c.loop-byte-test.true (sym c.is_digit.ensures ∙ c.if-is_digit.true) (⊎_elim inl (λ h. inr h.1) c.then-count-ge10.either), i.1)
 
 pub returns-then-b-ne32 : goal.returns-then-b-ne32
 returns-then-b-ne32 c =
@@ -19,40 +19,40 @@ returns-then-b-ne32 c =
     let why : (get_or c.args.text.now c.loop-byte.byte-index 0 ≡ 32 → ⊥) ⊎ (fit c.loop-byte.count c.loop-byte.value ≡ false) =
     elim c.then-b-ne32.branch [
       | then-b-ne32-via-then-b-ne32 w ↦ inl w.if-b-ne32.true
-      | then-b-ne32-via-else-b-ne32+then-not-is-number w ↦ inr (sym w.is-number.ensures ∙ w.if-not-is-number.true)
+      | then-b-ne32-via-else-b-ne32+then-not-is-number w ↦ inr (sym w.is_number.ensures ∙ w.if-not-is_number.true)
     ] in
-    (i.0, stuck_other i.2 c.loop-byte-test.true (sym c.is-digit.ensures ∙ c.if-is-digit.false) why, i.1)
+    (i.0, stuck_other i.2 c.loop-byte-test.true (sym c.is_digit.ensures ∙ c.if-is_digit.false) why, i.1)
 
 pub loop-byte-preserved : goal.loop-byte-preserved
 loop-byte-preserved c =
     let i = c.loop-byte.invariant.2 in
-    elim c.if-is-digit.branch [
+    elim c.if-is_digit.branch [
       | then-is-digit+else-count-ge10+else-value-ge-LIMIT w ↦
-          let small : get_or c.args.text.now c.loop-byte.byte-index 0 < 256 = (c.type-inv.text c.loop-byte.byte-index).fits in (
+          let small : get_or c.args.text.now c.loop-byte.byte-index 0 < 256 = (c.type_inv.text c.loop-byte.byte-index).fits in (
             omega (arith, w.count-is, w.if-count-ge10.false),
             omega (arith, w.value-is, w.if-value-ge-LIMIT.false, small),
-            (i.0, ap vec_items w.numbers-is ∙ i.1, reached_at w.count-is w.value-is (next_digit i.2 c.loop-byte-test.true (sym c.is-digit.ensures ∙ w.if-is-digit.true))),
+            (i.0, ap vec_items w.numbers-is ∙ i.1, reached_at w.count-is w.value-is (next_digit i.2 c.loop-byte-test.true (sym c.is_digit.ensures ∙ w.if-is_digit.true))),
           )
       | else-is-digit+else-b-ne32+else-not-is-number+in-ok-push w ↦
-          let items = w.in-ok-push.ensures.items in (
+          let items = w.in_ok-push.ensures.items in (
             omega (arith, w.count-is),
             omega (arith, w.value-is),
             (
               i.0 ++ c.loop-byte.value ∷ [],
               ap vec_items w.numbers-is ∙ items ∙ ap (λ t. t ++ c.loop-byte.value ∷ []) i.1 ∙ append_assoc _ i.0 _,
-              reached_at w.count-is w.value-is (next_space i.2 c.loop-byte-test.true w.if-b-ne32.false (sym w.is-number.ensures ∙ w.if-not-is-number.false)),
+              reached_at w.count-is w.value-is (next_space i.2 c.loop-byte-test.true w.if-b-ne32.false (sym w.is_number.ensures ∙ w.if-not-is_number.false)),
             ),
           )
     ]
 
-pub returns-then-not-is-number-2 : goal.returns-then-not-is-number-2
-returns-then-not-is-number-2 c =
-    let i = c.loop-byte.invariant.2 in (i.0, stuck_end i.2 c.loop-byte-test.false (sym c.is-number-2.ensures ∙ c.if-not-is-number-2.true), i.1)
+pub returns-then-not-is_number-2 : goal.returns-then-not-is_number-2
+returns-then-not-is_number-2 c =
+    let i = c.loop-byte.invariant.2 in (i.0, stuck_end i.2 c.loop-byte-test.false (sym c.is_number-2.ensures ∙ c.if-not-is_number-2.true), i.1)
 
 pub returns : goal.returns
 returns c =
     let i = c.loop-byte.invariant.2 in (
       i.0 ++ c.loop-byte.value ∷ [],
-      read_end i.2 c.loop-byte-test.false (sym c.is-number-2.ensures ∙ c.if-not-is-number-2.false),
-      c.in-ok-push-2.ensures.items ∙ ap (λ t. t ++ c.loop-byte.value ∷ []) i.1 ∙ append_assoc _ i.0 _,
+      read_end i.2 c.loop-byte-test.false (sym c.is_number-2.ensures ∙ c.if-not-is_number-2.false),
+      c.in_ok-push-2.ensures.items ∙ ap (λ t. t ++ c.loop-byte.value ∷ []) i.1 ∙ append_assoc _ i.0 _,
     )

@@ -4,25 +4,25 @@ use Rattle.sheet.proofs.Puts.{put_more, put_like}
 use Rattle.sheet.proofs.Lengths.{refused_line-length}
 use Rattle.sheet.proofs.line.put_refusal.Goals as goal
 
-pub put-spaced-numbered-requires : goal.put-spaced-numbered-requires
-put-spaced-numbered-requires c =
+pub put_spaced-numbered-requires : goal.put_spaced-numbered-requires
+put_spaced-numbered-requires c =
     let n = ap (λ k. length (spaced k)) c.number.ensures in
-    omega (arith, n, refused_line-length c.args.refusal.now, c.put-bytes-word.ensures.place)
+    omega (arith, n, refused_line-length c.args.refusal.now, c.put_bytes-word.ensures.place)
 
-pub put-spaced-placed-requires : goal.put-spaced-placed-requires
-put-spaced-placed-requires c =
+pub put_spaced-placed-requires : goal.put_spaced-placed-requires
+put_spaced-placed-requires c =
     let n = ap (λ k. length (spaced k)) c.number.ensures in
     let p = ap (λ k. length (spaced k)) c.place.ensures in
-    omega (arith, n, p, refused_line-length c.args.refusal.now, c.put-bytes-word.ensures.place, c.put-spaced-numbered.ensures.place)
+    omega (arith, n, p, refused_line-length c.args.refusal.now, c.put_bytes-word.ensures.place, c.put_spaced-numbered.ensures.place)
 
-pub put-byte-requires : goal.put-byte-requires
-put-byte-requires c =
+pub put_byte-requires : goal.put_byte-requires
+put_byte-requires c =
     let n = ap (λ k. length (spaced k)) c.number.ensures in
     let p = ap (λ k. length (spaced k)) c.place.ensures in
-    omega (arith, n, p, refused_line-length c.args.refusal.now, c.put-bytes-word.ensures.place, c.put-spaced-numbered.ensures.place, c.put-spaced-placed.ensures.place)
+    omega (arith, n, p, refused_line-length c.args.refusal.now, c.put_bytes-word.ensures.place, c.put_spaced-numbered.ensures.place, c.put_spaced-placed.ensures.place)
 
 pub returns : goal.returns
 returns c =
-    put_more c.put-bytes-word.ensures
-    (put_more (put_like (ap spaced c.number.ensures) c.put-spaced-numbered.ensures)
-    (put_more (put_like (ap spaced c.place.ensures) c.put-spaced-placed.ensures) c.put-byte.ensures))
+    put_more c.put_bytes-word.ensures
+    (put_more (put_like (ap spaced c.number.ensures) c.put_spaced-numbered.ensures)
+    (put_more (put_like (ap spaced c.place.ensures) c.put_spaced-placed.ensures) c.put_byte.ensures))

@@ -8,8 +8,8 @@ use Rattle.sheet.proofs.lines.put_boxes.Goals as goal
 pub loop-i-init : goal.loop-i-init
 loop-i-init c = ([], (put_none _ _, refl))
 
-pub put-box-next-requires : goal.put-box-next-requires
-put-box-next-requires c =
+pub put_box-next-requires : goal.put_box-next-requires
+put_box-next-requires c =
     let xs = c.loop-i.invariant.0 in
     let rest = box_lines c.loop-i.i c.args.rates (drop c.loop-i.i c.args.boxes.now) in
     let all = sym (length-append xs rest) ∙ ap length c.loop-i.invariant.1.1 in
@@ -19,7 +19,7 @@ pub loop-i-preserved : goal.loop-i-preserved
 loop-i-preserved c =
     let xs = c.loop-i.invariant.0 in
     let more = lines_more c.args.rates c.args.boxes.now c.loop-i.i c.loop-i-test.true in
-    (_, (put_more c.loop-i.invariant.1.0 c.put-box-next.ensures, append_assoc xs _ _ ∙ ap (λ t. xs ++ t) (sym more) ∙ c.loop-i.invariant.1.1))
+    (_, (put_more c.loop-i.invariant.1.0 c.put_box-next.ensures, append_assoc xs _ _ ∙ ap (λ t. xs ++ t) (sym more) ∙ c.loop-i.invariant.1.1))
 
 pub returns : goal.returns
 returns c =

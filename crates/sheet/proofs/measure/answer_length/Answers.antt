@@ -6,4 +6,4 @@ use Rattle.sheet.proofs.measure.answer_length.Goals as goal
 pub returns-in-Count : goal.returns-in-Count
 returns-in-Count c =
     let e = ap (λ a. length (answer_line c.args.number c.args.rates a)) c.in-Count.is in
-    (omega (arith, e, count_line_length c.in-Count.n, c.number-length.ensures.0), omega (arith, c.number-length.ensures.1))
+    (omega (arith, e, count_line_length c.in-Count.n, c.number_length.ensures.0), omega (arith, c.number_length.ensures.1))

@@ -7,4 +7,4 @@ pub returns : goal.returns
 returns c =
     let n = ap (λ k. length (spaced k)) c.number.ensures in
     let p = ap (λ k. length (spaced k)) c.place.ensures in
-    (omega (arith, n, p, c.spaced-length.ensures.0, c.spaced-length-2.ensures.0, refused_line-length c.args.refusal.now), omega (arith, c.spaced-length.ensures.1, c.spaced-length-2.ensures.1))
+    (omega (arith, n, p, c.spaced_length.ensures.0, c.spaced_length-2.ensures.0, refused_line-length c.args.refusal.now), omega (arith, c.spaced_length.ensures.1, c.spaced_length-2.ensures.1))

@@ -1,5 +1,5 @@
 use Rattle.std.proofs.Common.{length}
 use Rattle.sheet.proofs.put.+put_bytes.Given as goal
 
-abbrev pub decreases-put-bytes : goal.decreases-put-bytes
-decreases-put-bytes l = length l.bytes.now
+abbrev pub decreases-put_bytes : goal.decreases-put_bytes
+decreases-put_bytes l = length l.bytes.now

@@ -11,20 +11,20 @@ use Rattle.witness.proofs.chances.impossible_corner.Goals as goal
 pub loop-number-init : goal.loop-number-init
 loop-number-init c = refl
 
-pub returns-then-not-possible-at : goal.returns-then-not-possible-at
-returns-then-not-possible-at c =
-    let size : 2 ^ named (row_of c.args.row.now) ≡ c.table-size-number-end.result
-    = ap (λ n. 2 ^ n) (named-is _ c.args.row.now c.requires) ∙ sym c.table-size-number-end.ensures.size in
-    sym (lowest-found _ c.loop-number.number (2 ^ named (row_of c.args.row.now)) c.loop-number.invariant (sym c.if-not-possible-at.ensures) (omega arith))
+pub returns-then-not-possible_at : goal.returns-then-not-possible_at
+returns-then-not-possible_at c =
+    let size : 2 ^ named (row_of c.args.row.now) ≡ c.table_size-number-end.result
+    = ap (λ n. 2 ^ n) (named-is _ c.args.row.now c.requires) ∙ sym c.table_size-number-end.ensures.size in
+    sym (lowest-found _ c.loop-number.number (2 ^ named (row_of c.args.row.now)) c.loop-number.invariant (sym c.if-not-possible_at.ensures) (omega arith))
 
 pub loop-number-preserved : goal.loop-number-preserved
 loop-number-preserved c = lowest_more (possible_at c.args.region.now.grid (box_of c.args.region.now) (row_of c.args.row.now))
-    c.loop-number.number c.loop-number.invariant (sym c.if-not-possible-at.ensures)
+    c.loop-number.number c.loop-number.invariant (sym c.if-not-possible_at.ensures)
 
 pub returns : goal.returns
 returns c =
-    let size : 2 ^ named (row_of c.args.row.now) ≡ c.table-size-number-end.result
-    = ap (λ n. 2 ^ n) (named-is _ c.args.row.now c.requires) ∙ sym c.table-size-number-end.ensures.size in
+    let size : 2 ^ named (row_of c.args.row.now) ≡ c.table_size-number-end.result
+    = ap (λ n. 2 ^ n) (named-is _ c.args.row.now c.requires) ∙ sym c.table_size-number-end.ensures.size in
     let ended : c.loop-number.number ≡ 2 ^ named (row_of c.args.row.now) = omega arith in
     let ok : ℕ → Bool = possible_at c.args.region.now.grid (box_of c.args.region.now) (row_of c.args.row.now) in
     sym c.loop-number.invariant ∙ ap (lowest ok) ended

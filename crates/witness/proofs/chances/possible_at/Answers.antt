@@ -6,8 +6,8 @@ use Rattle.witness.proofs.Tables.{take_few}
 use Rattle.witness.proofs.Tests.{possible_at_lem, point_at}
 use Rattle.witness.proofs.chances.possible_at.Goals as goal
 
-pub edges-possible-requires : goal.edges-possible-requires
-edges-possible-requires c =
+pub edges_possible-requires : goal.edges_possible-requires
+edges_possible-requires c =
     let n = c.args.row.now.rate_count in
     let long : length c.corner-point.result ≡ 3 = search rules in
     let same : n - 0 ≡ n = omega arith in
@@ -22,5 +22,5 @@ returns c =
     let row = c.args.row.now in
     let region = c.args.region.now in
     let same : row.rate_count - 0 ≡ row.rate_count = omega arith in
-    c.edges-possible.ensures ∙ possible_at_lem region.grid _ _ (row_of row)
+    c.edges_possible.ensures ∙ possible_at_lem region.grid _ _ (row_of row)
     (point_at _ (row.rate_count - 0) (box_of region) row c.args.number c.corner-point.result c.requires same c.corner-point.ensures.point)

@@ -29,9 +29,9 @@ side region row t p x high h e s =
 
 point : (c : goal.After-side-3) (p : ℕ) → p < c.args.row.now.rate_count
     → at (c.side.result ∷ c.side-2.result ∷ c.side-3.result ∷ []) p ≡ corner_of (box_of c.args.region.now) (row_of c.args.row.now) c.args.number p
-point c zero h = side c.args.region.now c.args.row.now c.args.number 0 c.side.result c.is-high.result h c.is-high.ensures c.side.ensures.number
-point c (suc zero) h = side c.args.region.now c.args.row.now c.args.number 1 c.side-2.result c.is-high-2.result h c.is-high-2.ensures c.side-2.ensures.number
-point c (suc (suc zero)) h = side c.args.region.now c.args.row.now c.args.number 2 c.side-3.result c.is-high-3.result h c.is-high-3.ensures c.side-3.ensures.number
+point c zero h = side c.args.region.now c.args.row.now c.args.number 0 c.side.result c.is_high.result h c.is_high.ensures c.side.ensures.number
+point c (suc zero) h = side c.args.region.now c.args.row.now c.args.number 1 c.side-2.result c.is_high-2.result h c.is_high-2.ensures c.side-2.ensures.number
+point c (suc (suc zero)) h = side c.args.region.now c.args.row.now c.args.number 2 c.side-3.result c.is_high-3.result h c.is_high-3.ensures c.side-3.ensures.number
 point c (suc (suc (suc p))) h = absurd (omega arith)
 
 pub returns : goal.returns

@@ -8,14 +8,14 @@ use Rattle.witness.proofs.rows.first_failing.Goals as goal
 pub loop-state-init : goal.loop-state-init
 loop-state-init g c = refl
 
-pub returns-then-not-state-holds : goal.returns-then-not-state-holds
-returns-then-not-state-holds g c =
+pub returns-then-not-state_holds : goal.returns-then-not-state_holds
+returns-then-not-state_holds g c =
     sym (lowest-found _ c.loop-state.state (g.C.Chain.meaning c.args.chain.now).states c.loop-state.invariant
-    (sym c.if-not-state-holds.ensures) (omega (arith, c.states-state-end.ensures)))
+    (sym c.if-not-state_holds.ensures) (omega (arith, c.states-state-end.ensures)))
 
 pub loop-state-preserved : goal.loop-state-preserved
 loop-state-preserved g c = lowest_more (claim_ok (g.T.Claim.said c.args.claim.now) (g.C.Chain.meaning c.args.chain.now) c.args.region.now.grid (box_of c.args.region.now))
-    c.loop-state.state c.loop-state.invariant (sym c.if-not-state-holds.ensures)
+    c.loop-state.state c.loop-state.invariant (sym c.if-not-state_holds.ensures)
 
 pub returns : goal.returns
 returns g c =

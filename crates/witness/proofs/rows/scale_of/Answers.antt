@@ -15,18 +15,18 @@ pow_3 g = pow-suc g 2 ∙ rw pow_2 (mul_comm (g * g) g)
 three : (u g : ℕ) → u ≤ 1000 → g ≤ 1000 → u * (g * (g * g)) ≤ 2 ^ 40
 three u g h k = omega (arith, mul-le-mul h (mul-le-mul k (mul-le-mul k k)))
 
-pub overflow-mul-result-in-default-3 : goal.overflow-mul-result-in-default-3
-overflow-mul-result-in-default-3 c = record { fits = omega (arith, three c.args.unit c.args.grid c.requires.unit_few c.requires.grid-few) }
+pub overflow_mul-result-in_default-3 : goal.overflow_mul-result-in_default-3
+overflow_mul-result-in_default-3 c = record { fits = omega (arith, three c.args.unit c.args.grid c.requires.unit_few c.requires.grid_few) }
 
 pub returns-in-0 : goal.returns-in-0
 returns-in-0 c = record { power = simp (c.in-0.is, pow-zero, mul-one); few = omega arith }
 
 pub returns-in-1 : goal.returns-in-1
-returns-in-1 c = record { power = simp (c.in-1.is, pow_1); few = omega (arith, mul-le-mul c.requires.unit_few c.requires.grid-few) }
+returns-in-1 c = record { power = simp (c.in-1.is, pow_1); few = omega (arith, mul-le-mul c.requires.unit_few c.requires.grid_few) }
 
 pub returns-in-2 : goal.returns-in-2
-returns-in-2 c = record { power = simp (c.in-2.is, pow_2); few = omega (arith, mul-le-mul c.requires.unit_few (mul-le-mul c.requires.grid-few c.requires.grid-few)) }
+returns-in-2 c = record { power = simp (c.in-2.is, pow_2); few = omega (arith, mul-le-mul c.requires.unit_few (mul-le-mul c.requires.grid_few c.requires.grid_few)) }
 
-pub returns-in-default : goal.returns-in-default
-returns-in-default c = let e : c.args.named ≡ 3 = omega arith in
-    record { power = simp (e, pow_3); few = three c.args.unit c.args.grid c.requires.unit_few c.requires.grid-few }
+pub returns-in_default : goal.returns-in_default
+returns-in_default c = let e : c.args.named ≡ 3 = omega arith in
+    record { power = simp (e, pow_3); few = three c.args.unit c.args.grid c.requires.unit_few c.requires.grid_few }

@@ -7,8 +7,8 @@ use Rattle.witness.proofs.rows.scaled.Goals as goal
 small : (c : goal.Start) → c.args.number * c.args.scale ≤ 2 ^ 72
 small c = let h : c.args.number ≤ 2 ^ 32 = omega arith in omega (arith, mul-le-mul h c.requires)
 
-pub overflow-mul-result : goal.overflow-mul-result
-overflow-mul-result c = rw (to_z_pos w128 c.args.number (omega arith), to_z_pos w128 c.args.scale (omega arith))
+pub overflow_mul-result : goal.overflow_mul-result
+overflow_mul-result c = rw (to_z_pos w128 c.args.number (omega arith), to_z_pos w128 c.args.scale (omega arith))
     (fits w128 (pos (c.args.number * c.args.scale)) (omega (arith, small c)))
 
 pub returns : goal.returns

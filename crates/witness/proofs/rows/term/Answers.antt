@@ -9,8 +9,8 @@ use Rattle.witness.proofs.rows.term.Goals as goal
 small : (c : goal.Start) → nat_abs (c.args.number · c.args.value) ≤ 2 ^ 78
 small c = omega (arith, times_small c.args.number (2 ^ 32) (room 0) c.args.value (omega arith) c.requires)
 
-pub overflow-mul-result : goal.overflow-mul-result
-overflow-mul-result c = rw (to_z-of_z w64 c.args.value c.ranges.value)
+pub overflow_mul-result : goal.overflow_mul-result
+overflow_mul-result c = rw (to_z-of_z w64 c.args.value c.ranges.value)
     (product_fits w128 c.args.number c.args.value (omega arith) (fits w128 c.args.value (omega (arith, c.requires))) (omega (arith, small c)))
 
 pub returns : goal.returns

@@ -9,25 +9,25 @@ use Rattle.witness.proofs.value.edge_value.Goals as goal
 
 pub value-requires : goal.value-requires
 value-requires c =
-    let n = c.table-size-size.result in
+    let n = c.table_size-size.result in
     let wide = c.widened-table.result in
     let long : length wide ≡ 8 = search rules in
     let P : List ℤ → Type 0 = λ xs. Small 8000 xs in
     let same : n - 0 ≡ n = omega arith in
     record {
-      grid-few = c.requires.grid-few;
+      grid_few = c.requires.grid_few;
       point_few = c.requires.point_few;
       few = c.requires.few;
-      full = length-take-le (n - 0) wide (omega arith) ∙ same ∙ c.table-size-size.ensures.size;
+      full = length-take-le (n - 0) wide (omega arith) ∙ same ∙ c.table_size-size.ensures.size;
       small = front-small (n - 0) 8000 _ wide (room_least _ c.requires.few).0 (subst P (sym c.widened-table.ensures) c.requires.small);
     }
 
 pub returns : goal.returns
 returns c =
     let j = length c.args.point.now in
-    let n = c.table-size-size.result in
+    let n = c.table_size-size.result in
     let same : n - 0 ≡ 2 ^ j = omega arith in
-    let e = to_z-of_z w64 c.value.result (record { sfits = c.value.type-inv }) in
+    let e = to_z-of_z w64 c.value.result (record { sfits = c.value.type_inv }) in
     let B : ℤ → Type 0 = λ z. nat_abs z ≤ room 0 in
     record {
       worth = e ∙ c.value.ensures.worth ∙ front-worth c.args.grid (n - 0) j (at c.args.point.now) c.widened-table.result same

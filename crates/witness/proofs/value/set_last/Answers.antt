@@ -16,10 +16,10 @@ mixed-requires c =
     let i = c.loop-i.i in
     let a = as_it_was (2 ^ 40) i c.loop-i.low c.args.low.now c.loop-i.invariant.1 c.requires.low_small in
     record {
-      grid-few = c.requires.grid-few;
-      rate-few = c.requires.rate-few;
-      without-small = rw (to_z-of_z w64 _ (fits w64 (entry c.loop-i.low i) (omega arith))) a;
-      with-small = rw (to_z-of_z w64 _ (fits w64 (entry c.args.high.now i) (omega (arith, c.requires.high_small i)))) (c.requires.high_small i);
+      grid_few = c.requires.grid_few;
+      rate_few = c.requires.rate_few;
+      without_small = rw (to_z-of_z w64 _ (fits w64 (entry c.loop-i.low i) (omega arith))) a;
+      with_small = rw (to_z-of_z w64 _ (fits w64 (entry c.args.high.now i) (omega (arith, c.requires.high_small i)))) (c.requires.high_small i);
     }
 
 pub loop-i-preserved : goal.loop-i-preserved
@@ -32,7 +32,7 @@ loop-i-preserved c =
     let r = mixed_of c.args.grid c.args.rate c.mixed.result a (entry c.args.high.now i) (entry c.args.low.now i)
     fa fb (c.loop-i.invariant.1 i (omega arith)) c.mixed.ensures in
     set_more c.args.grid c.args.rate c.loop-i.low c.args.low.now c.args.high.now i (to_z w64 (of_z w64 c.mixed.result))
-    h (to_z-of_z w64 c.mixed.result (record { sfits = c.mixed.type-inv }) ∙ r) c.loop-i.invariant
+    h (to_z-of_z w64 c.mixed.result (record { sfits = c.mixed.type_inv }) ∙ r) c.loop-i.invariant
 
 pub returns : goal.returns
 returns c = λ k h. c.loop-i.invariant.0 k (omega arith)

@@ -5,10 +5,10 @@ use Rattle.witness.proofs.value.times.Goals as goal
 use Rattle.witness.proofs.value.times.Goals.{Start}
 
 small : (c : goal.Start) → nat_abs (c.args.n · c.args.z) ≤ 2 ^ 50
-small c = omega (arith, times_small c.args.n 1000 (2 ^ 40) c.args.z c.requires.n-few c.requires.z-small)
+small c = omega (arith, times_small c.args.n 1000 (2 ^ 40) c.args.z c.requires.n_few c.requires.z_small)
 
-pub overflow-mul-result : goal.overflow-mul-result
-overflow-mul-result c = product_fits w64 c.args.n c.args.z (omega arith) c.ranges.z (omega (arith, small c))
+pub overflow_mul-result : goal.overflow_mul-result
+overflow_mul-result c = product_fits w64 c.args.n c.args.z (omega arith) c.ranges.z (omega (arith, small c))
 
 pub returns : goal.returns
 returns c =

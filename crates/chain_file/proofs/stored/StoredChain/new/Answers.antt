@@ -5,9 +5,9 @@ use Rattle.chain_format.proofs.TripLaws.{read_then_write}
 use Rattle.chain_file.proofs.Openings.{first_fits, first_opens, first_same}
 use Rattle.chain_file.proofs.stored.StoredChain.new.Goals as goal
 
-pub invariant-of-result : goal.invariant-of-result
+pub invariant_of-result : goal.invariant_of-result
 unfolding bytes_of spell
-invariant-of-result c =
+invariant_of-result c =
     let t = told _ first_fits first_opens in
     (first_fits, (first_opens, ((read_then_write _ first_fits first_opens).1, (t.long, (t.states, (t.rates, (t.unit, (t.start, (t.mark, tt)))))))))
 

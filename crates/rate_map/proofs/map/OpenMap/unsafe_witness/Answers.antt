@@ -13,9 +13,9 @@ returns-in-Ok g c =
     let m = open_value c.args.self.now in
     let k = g.C.Chain.meaning c.args.self.now.chain in
     let on = c.in-Ok.ensures in
-    let e : unsafe_on k m c.args.number c.args.v.now c.args.w.now ≡ keeping m c.args.number c.judge-unsafe-answer.result
+    let e : unsafe_on k m c.args.number c.args.v.now c.args.w.now ≡ keeping m c.args.number c.judge_unsafe-answer.result
     = (region_made k m c.args.number _ on.fit).1
-    ∙ ap (keeping m c.args.number) (sym (c.judge-unsafe-answer.ensures.answer ∙ unsafe_is k m c.args.number c.in-Ok.region on c.args.self.now.limit c.args.v.now c.args.w.now)) in
+    ∙ ap (keeping m c.args.number) (sym (c.judge_unsafe-answer.ensures.answer ∙ unsafe_is k m c.args.number c.in-Ok.region on c.args.self.now.limit c.args.v.now c.args.w.now)) in
     let t = unsafe_taken_exactly k m.grid m.limit (sides_of (box_at m.boxes c.args.number)) c.args.v.now c.args.w.now in
     let answer = c.keep.ensures.change.answer ∙ sym (ap taken e) in
     record {

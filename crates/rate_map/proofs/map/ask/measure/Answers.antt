@@ -9,8 +9,8 @@ loop-b-preserved c =
     let bs = c.boxes-boxes.result.now in
     let b = get_or bs i no_box in
     let t = c.loop-b.total in
-    let n = c.count-volume-total.ensures.bounds in (
-      ap (volumes c.args.rates (drop (i + 1) bs)) (c.count-volume-total.ensures.total ∙ ap (λ x. counted b.verdict x t) c.volume.ensures.product)
+    let n = c.count_volume-total.ensures.bounds in (
+      ap (volumes c.args.rates (drop (i + 1) bs)) (c.count_volume-total.ensures.total ∙ ap (λ x. counted b.verdict x t) c.volume.ensures.product)
           ∙ sym (at_drop_more (λ xs. volumes c.args.rates xs t) bs i no_box c.loop-b-test.true) ∙ c.loop-b.invariant.0,
       (omega (arith, n.0, c.loop-b.invariant.1.0), omega (arith, n.1, c.loop-b.invariant.1.1), omega (arith, n.2, c.loop-b.invariant.1.2)),
     )

@@ -8,8 +8,8 @@ three x y z a b c = mul-le-mul (mul-le-mul a b) c
 four : (x y z w : ℕ) → x ≤ 1000 → y ≤ 1000 → z ≤ 1000 → w ≤ 1000 → x * y * z * w ≤ 1000000000000
 four x y z w a b c d = mul-le-mul (three x y z a b c) d
 
-pub overflow-mul-result-in-default-3 : goal.overflow-mul-result-in-default-3
-overflow-mul-result-in-default-3 c = record { fits = omega (arith, four _ _ _ _ c.width-in-default.ensures.few c.width-in-default-2.ensures.few c.width-in-default-3.ensures.few c.width-in-default-4.ensures.few) }
+pub overflow_mul-result-in_default-3 : goal.overflow_mul-result-in_default-3
+overflow_mul-result-in_default-3 c = record { fits = omega (arith, four _ _ _ _ c.width-in_default.ensures.few c.width-in_default-2.ensures.few c.width-in_default-3.ensures.few c.width-in_default-4.ensures.few) }
 
 pub returns-in-3 : goal.returns-in-3
 returns-in-3 c = record {
@@ -18,9 +18,9 @@ returns-in-3 c = record {
   few = omega (arith, three _ _ _ c.width-in-3.ensures.few c.width-in-3-2.ensures.few c.width-in-3-3.ensures.few);
 }
 
-pub returns-in-default : goal.returns-in-default
-returns-in-default c = let e : c.args.rates ≡ 4 = omega arith in record {
-  product = (λ i. c.width-in-default.ensures.width i * c.width-in-default-2.ensures.width i * c.width-in-default-3.ensures.width i * c.width-in-default-4.ensures.width i)
+pub returns-in_default : goal.returns-in_default
+returns-in_default c = let e : c.args.rates ≡ 4 = omega arith in record {
+  product = (λ i. c.width-in_default.ensures.width i * c.width-in_default-2.ensures.width i * c.width-in_default-3.ensures.width i * c.width-in_default-4.ensures.width i)
       ∙ simp (e, one-mul);
-  few = omega (arith, four _ _ _ _ c.width-in-default.ensures.few c.width-in-default-2.ensures.few c.width-in-default-3.ensures.few c.width-in-default-4.ensures.few);
+  few = omega (arith, four _ _ _ _ c.width-in_default.ensures.few c.width-in_default-2.ensures.few c.width-in_default-3.ensures.few c.width-in_default-4.ensures.few);
 }

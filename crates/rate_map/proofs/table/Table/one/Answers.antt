@@ -8,8 +8,8 @@ use Rattle.rate_map.proofs.table.Table.one.Goals as goal
 abbrev blank : BoxRecord
 blank = record { low = replicate 4 0; high = replicate 4 0; verdict = Open }
 
-pub invariant-of-result : goal.invariant-of-result
-invariant-of-result c = (
+pub invariant_of-result : goal.invariant_of-result
+invariant_of-result c = (
   lit≤ tt,
   (
     refl,

@@ -10,12 +10,12 @@ loop-i-init c = planned_as [] _ (ap (map command) c.new-calls.ensures.items) (pl
 pub returns-then-not-more : goal.returns-then-not-more
 returns-then-not-more c =
     planned_stop c.step-step.result _ _ _ c.loop-i.invariant (omega (arith, c.len-i-end.ensures, count_said c.args.states c.args.self.now, c.loop-i-test.true))
-    c.step-step.ensures c.in-ok-more.ensures c.if-not-more.true
+    c.step-step.ensures c.in_ok-more.ensures c.if-not-more.true
 
 pub loop-i-preserved : goal.loop-i-preserved
 loop-i-preserved c =
     planned_step c.step-step.result _ _ _ c.loop-i.invariant (omega (arith, c.len-i-end.ensures, count_said c.args.states c.args.self.now, c.loop-i-test.true))
-    c.step-step.ensures c.in-ok-more.ensures c.if-not-more.false
+    c.step-step.ensures c.in_ok-more.ensures c.if-not-more.false
 
 pub returns : goal.returns
 returns c = planned_all c.loop-i.invariant (omega (arith, c.len-i-end.ensures, count_said c.args.states c.args.self.now))

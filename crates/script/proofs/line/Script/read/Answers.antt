@@ -11,19 +11,19 @@ loop-rest-init c = read_as refl c.new-lines.ensures.items c.new-numbers.ensures.
 pub loop-rest-smaller : goal.loop-rest-smaller
 loop-rest-smaller c =
     let rest = c.loop-rest.rest.now in
-    omega (arith, ap length c.behind-rest.ensures, length-drop (c.line-length-length.result + 1) rest, c.loop-rest-test.true)
+    omega (arith, ap length c.behind-rest.ensures, length-drop (c.line_length-length.result + 1) rest, c.loop-rest-test.true)
 
 pub loop-rest-preserved : goal.loop-rest-preserved
 loop-rest-preserved c =
     let rest = c.loop-rest.rest.now in
-    let k = c.line-length-length.result in
-    let e = c.line-length-length.ensures in
+    let k = c.line_length-length.result in
+    let e = c.line_length-length.ensures in
     let some : 0 < length rest = omega (arith, c.loop-rest-test.true) in
     let z : k ≡ k - 0 = omega arith in
     let next : lines_of rest ≡ take (k - 0) rest ∷ lines_of c.behind-rest.result.now =
     lines_next rest k some e.within e.before e.found ∙ ap (λ t. take t rest ∷ lines_of (drop (k + 1) rest)) z
     ∙ ap (λ t. take (k - 0) rest ∷ lines_of t) (sym c.behind-rest.ensures) in
-    read_as refl c.in-ok-push.ensures.items refl (read_more _ _ _ _ c.loop-rest.invariant next c.in-ok-line.ensures)
+    read_as refl c.in_ok-push.ensures.items refl (read_more _ _ _ _ c.loop-rest.invariant next c.in_ok-line.ensures)
 
 pub returns : goal.returns
 returns c =

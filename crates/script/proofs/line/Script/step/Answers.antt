@@ -10,5 +10,5 @@ returns-then-number-len c =
 pub returns : goal.returns
 returns c =
     let there : c.args.number < length (vec_items c.args.self.now.lines) = omega (arith, c.len.ensures, c.args.self.now.lines.ok.0) in
-    c.say-line.ensures ∙ ap (λ t. said_in c.args.states t c.index.result.now) c.deref.ensures.value
+    c.say_line.ensures ∙ ap (λ t. said_in c.args.states t c.index.result.now) c.deref.ensures.value
     ∙ sym (said_at c.args.states (vec_items c.args.self.now.numbers) _ _ _ there c.index.ensures)

@@ -9,8 +9,8 @@ use Rattle.witness.proofs.region.Region.new.Goals as goal
 side : (c : goal.In-None) (r : ℕ) → r < c.args.rates → side_ok c.args.grid c.args.low c.args.high r ≡ true
 side c = lowest_none (side_ok c.args.grid c.args.low c.args.high) c.args.rates (sym c.in-None.ensures)
 
-pub invariant-of-result : goal.invariant-of-result
-invariant-of-result c = (
+pub invariant_of-result : goal.invariant_of-result
+invariant_of-result c = (
   search rules,
   (
     search rules,
