@@ -20,7 +20,7 @@ use chain::refusal::Refusal;
 
 // How many bytes the file of a chain has: at most 630835.
 pub fn file_length<C: Chain>(chain: &C) -> usize
-    ensures exact { result ≡ length (encode (meaning chain.now)) }
+    ensures exact { result ≡ length (encode (C.meaning chain.now)) }
     ensures most { result ≤ 51 + 154 * most_states }
 {
     let states = chain.states() as usize;
@@ -29,9 +29,9 @@ pub fn file_length<C: Chain>(chain: &C) -> usize
 
 // Writes the file of a chain, which has so many bytes, to the start of a buffer that has room for it.
 fn put_file<C: Chain>(chain: &C, buffer: &mut [u8], size: usize)
-    requires { (size ≡ length (encode (meaning chain.now))) × ((size ≤ length buffer.old) × (size ≤ 51 + 154 * most_states)) }
-    ensures written { Wrote buffer.old buffer.new (encode (meaning chain.now)) }
-    ensures again { ReadsAs (take size buffer.new) (meaning chain.now) }
+    requires { (size ≡ length (encode (C.meaning chain.now))) × ((size ≤ length buffer.old) × (size ≤ 51 + 154 * most_states)) }
+    ensures written { Wrote buffer.old buffer.new (encode (C.meaning chain.now)) }
+    ensures again { ReadsAs (take size buffer.new) (C.meaning chain.now) }
 {
     let states = chain.states();
     let offsets = MARKS + states as usize;
@@ -46,8 +46,8 @@ fn put_file<C: Chain>(chain: &C, buffer: &mut [u8], size: usize)
 // Writes the file of a chain to the start of a buffer and tells its length; the bytes after it stay.
 // A buffer too short for the file stays as it is. What is written reads as the same chain again.
 pub fn write_chain<C: Chain>(chain: &C, buffer: &mut [u8]) -> Result<usize, Refusal>
-    ensures written { MatchResult result (λ n. (n ≡ length (encode (meaning chain.now))) × Wrote buffer.old buffer.new (encode (meaning chain.now))) (λ e. (e ≡ ShortBuffer) × (length buffer.old < length (encode (meaning chain.now))) × (buffer.new ≡ buffer.old)) }
-    ensures again { IfOk result (λ n. ReadsAs (take n buffer.new) (meaning chain.now)) }
+    ensures written { MatchResult result (λ n. (n ≡ length (encode (C.meaning chain.now))) × Wrote buffer.old buffer.new (encode (C.meaning chain.now))) (λ e. (e ≡ ShortBuffer) × (length buffer.old < length (encode (C.meaning chain.now))) × (buffer.new ≡ buffer.old)) }
+    ensures again { IfOk result (λ n. ReadsAs (take n buffer.new) (C.meaning chain.now)) }
 {
     let length = file_length(chain);
     if buffer.len() < length {

@@ -76,8 +76,8 @@ pub(crate) fn row_length(row: &RowRecord) -> usize
 
 // The row of a state that the chain has.
 pub(crate) fn row_of<C: Chain>(chain: &C, state: u32) -> RowRecord
-    requires { state < (meaning chain.now).states }
-    ensures same { result ≡ filled ((meaning chain.now).row state) }
+    requires { state < (C.meaning chain.now).states }
+    ensures same { result ≡ filled ((C.meaning chain.now).row state) }
     ensures rates { result.rate_count ≤ 3 }
     ensures edges { result.edge_count ≤ 8 }
 {

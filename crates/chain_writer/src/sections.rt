@@ -43,7 +43,7 @@ pub(crate) fn put_contents(buffer: &mut [u8], states: u32, rows: u32)
 
 pub(crate) fn put_numbers<C: Chain>(chain: &C, buffer: &mut [u8], at: usize)
     requires { at + numbers_length version1 ≤ length buffer.old }
-    ensures { Appends buffer.old buffer.new at (numbers_bytes version1 (file_of (meaning chain.now)).numbers) }
+    ensures { Appends buffer.old buffer.new at (numbers_bytes version1 (file_of (C.meaning chain.now)).numbers) }
 {
     put_number(buffer, at, WIDE, chain.states());
     put_number(buffer, at + WIDE, 1, chain.rates());
@@ -52,8 +52,8 @@ pub(crate) fn put_numbers<C: Chain>(chain: &C, buffer: &mut [u8], at: usize)
 }
 
 pub(crate) fn put_marks<C: Chain>(chain: &C, buffer: &mut [u8], at: usize)
-    requires { at + (meaning chain.now).states ≤ length buffer.old }
-    ensures { Appends buffer.old buffer.new at (marks_bytes (file_of (meaning chain.now)).marks) }
+    requires { at + (C.meaning chain.now).states ≤ length buffer.old }
+    ensures { Appends buffer.old buffer.new at (marks_bytes (file_of (C.meaning chain.now)).marks) }
 {
     let states = chain.states();
     for state in 0..states {
@@ -65,8 +65,8 @@ pub(crate) fn put_marks<C: Chain>(chain: &C, buffer: &mut [u8], at: usize)
 
 // The offsets of the rows.
 pub(crate) fn put_offsets<C: Chain>(chain: &C, buffer: &mut [u8], at: usize)
-    requires { at + 4 * (meaning chain.now).states ≤ length buffer.old }
-    ensures { Appends buffer.old buffer.new at (offsets_bytes version1 (file_of (meaning chain.now)).rows) }
+    requires { at + 4 * (C.meaning chain.now).states ≤ length buffer.old }
+    ensures { Appends buffer.old buffer.new at (offsets_bytes version1 (file_of (C.meaning chain.now)).rows) }
 {
     let states = chain.states();
     let mut offset = 0;
@@ -79,8 +79,8 @@ pub(crate) fn put_offsets<C: Chain>(chain: &C, buffer: &mut [u8], at: usize)
 
 // How many bytes all rows take.
 pub(crate) fn rows_length<C: Chain>(chain: &C) -> usize
-    ensures size { result ≡ length (rows_bytes version1 (file_of (meaning chain.now)).rows) }
-    ensures most { result ≤ 149 * (meaning chain.now).states }
+    ensures size { result ≡ length (rows_bytes version1 (file_of (C.meaning chain.now)).rows) }
+    ensures most { result ≤ 149 * (C.meaning chain.now).states }
 {
     let states = chain.states();
     let mut size = 0;
@@ -92,8 +92,8 @@ pub(crate) fn rows_length<C: Chain>(chain: &C) -> usize
 }
 
 pub(crate) fn put_rows<C: Chain>(chain: &C, buffer: &mut [u8], at: usize)
-    requires { at + length (rows_bytes version1 (file_of (meaning chain.now)).rows) ≤ length buffer.old }
-    ensures { Appends buffer.old buffer.new at (rows_bytes version1 (file_of (meaning chain.now)).rows) }
+    requires { at + length (rows_bytes version1 (file_of (C.meaning chain.now)).rows) ≤ length buffer.old }
+    ensures { Appends buffer.old buffer.new at (rows_bytes version1 (file_of (C.meaning chain.now)).rows) }
 {
     let states = chain.states();
     let mut next = at;

@@ -42,7 +42,7 @@ fn show<C: Chain>(
     rates: u32,
     ran: &Ran<C>,
 ) -> Result<Vec<u8>, AllocError>
-    ensures { IfOk result (λ out. out.items ≡ texts rates (said_by states script.now) ran.now.answers.items ++ (if is_closed ran.now.map then sheet_of (meaning (chain_of ran.now.map)) (ended_value ran.now.map) else [])) }
+    ensures { IfOk result (λ out. out.items ≡ texts rates (said_by states script.now) ran.now.answers.items ++ (if is_closed ran.now.map then sheet_of (C.meaning (chain_of ran.now.map)) (ended_value ran.now.map) else [])) }
 {
     let mut out = Vec::new(heap);
     report_lines(&mut out, script, states, rates, &ran.answers)?;
@@ -59,8 +59,8 @@ pub fn map_chain<C: Chain + Drop>(
     chain: C,
     bytes: &[u8],
 ) -> Result<Vec<u8>, AllocError>
-    ensures output { IfOk result (λ out. out.items ≡ map_output (meaning chain) (script_said (meaning chain).states bytes.now)) }
-    ensures promise { IfOk result (λ out. Mapped (meaning chain) bytes.now out.items) }
+    ensures output { IfOk result (λ out. out.items ≡ map_output (C.meaning chain) (script_said (C.meaning chain).states bytes.now)) }
+    ensures promise { IfOk result (λ out. Mapped (C.meaning chain) bytes.now out.items) }
 {
     let states = chain.states();
     let rates = chain.rates();

@@ -74,7 +74,7 @@ pub(crate) fn report_sheet<C: Chain>(
     out: &mut Vec<u8>,
     map: &ClosedMap<C>,
 ) -> Result<(), AllocError>
-    ensures { out.new.items ≡ (if is_ok result then out.old.items ++ sheet_of (meaning map.now.chain) (closed_value map.now) else out.old.items) }
+    ensures { out.new.items ≡ (if is_ok result then out.old.items ++ sheet_of (C.meaning map.now.chain) (closed_value map.now) else out.old.items) }
 {
     let mut page = vec![in heap; 0u8; 30527]?;
     match map.sheet(&mut page) {

@@ -25,9 +25,9 @@ fn done(r: Result<(), Refusal>) -> Answer
 
 // One call of a list. The boxes of the map are proper, as those of a map that calls have made are.
 fn obey<C: Chain>(map: &mut OpenMap<C>, call: &Call) -> Answer
-    requires { Fit (meaning map.old.chain) (open_value map.old) }
-    ensures answer { result ≡ answer_of (meaning map.old.chain) (open_value map.old) (command call.now) }
-    ensures value { open_value map.new ≡ after_of (meaning map.old.chain) (open_value map.old) (command call.now) }
+    requires { Fit (C.meaning map.old.chain) (open_value map.old) }
+    ensures answer { result ≡ answer_of (C.meaning map.old.chain) (open_value map.old) (command call.now) }
+    ensures value { open_value map.new ≡ after_of (C.meaning map.old.chain) (open_value map.old) (command call.now) }
     ensures chain { map.new.chain ≡ map.old.chain }
 {
     match call {
@@ -84,7 +84,7 @@ fn end<C: Chain>(map: OpenMap<C>, close: bool) -> Ended<C>
 // Makes a new map over a chain, carries out a list of calls on it, and closes it at the end if `close` says so. Where
 // memory is wanting for the answers, the chain comes back.
 pub fn run<C: Chain>(heap: Global, chain: C, calls: &[Call], close: bool) -> Result<Ran<C>, C>
-    ensures { MatchResult result (Promised (meaning chain) chain (mapped command calls.now) close) (λ back. back ≡ chain) }
+    ensures { MatchResult result (Promised (C.meaning chain) chain (mapped command calls.now) close) (λ back. back ≡ chain) }
 {
     let mut answers = Vec::new(heap);
     let mut map = OpenMap::new(chain);

@@ -22,7 +22,7 @@ fn number_of(res: Result<(), Refusal>) -> u32
 
 // A safe witness for the field of a new map.
 fn judge_safe<C: Chain + Drop>(chain: C, grid: u32, limit: u32, sides: &[u32], v: &[u32]) -> u32
-    ensures { result ≡ safe_number (meaning chain) grid limit sides.now v.now }
+    ensures { result ≡ safe_number (C.meaning chain) grid limit sides.now v.now }
 {
     let mut map = OpenMap::new(chain);
     let _ = map.lay_out(grid, limit, sides);
@@ -38,7 +38,7 @@ fn judge_unsafe<C: Chain + Drop>(
     v: &[u32],
     w: &[u32],
 ) -> u32
-    ensures { result ≡ unsafe_number (meaning chain) grid limit sides.now v.now w.now }
+    ensures { result ≡ unsafe_number (C.meaning chain) grid limit sides.now v.now w.now }
 {
     let mut map = OpenMap::new(chain);
     let _ = map.lay_out(grid, limit, sides);

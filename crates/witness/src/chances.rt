@@ -60,9 +60,9 @@ fn impossible_corner(region: &Region, row: &RowRecord) -> Option<u32>
 
 // Whether every edge of the row of a state is possible at every corner.
 fn state_possible<C: Chain>(chain: &C, region: &Region, state: u32, row: &mut RowRecord) -> bool
-    requires known { state < (meaning chain.now).states }
-    requires same { region.now.rates ≡ (meaning chain.now).rates }
-    ensures { result ≡ chance_ok (meaning chain.now) region.now.grid (box_of region.now) state }
+    requires known { state < (C.meaning chain.now).states }
+    requires same { region.now.rates ≡ (C.meaning chain.now).rates }
+    ensures { result ≡ chance_ok (C.meaning chain.now) region.now.grid (box_of region.now) state }
 {
     fill(chain, state, row);
     match impossible_corner(region, row) {
@@ -73,8 +73,8 @@ fn state_possible<C: Chain>(chain: &C, region: &Region, state: u32, row: &mut Ro
 
 // The lowest state with an edge that is impossible at a corner.
 pub(crate) fn first_impossible<C: Chain>(chain: &C, region: &Region) -> Option<u32>
-    requires { region.now.rates ≡ (meaning chain.now).rates }
-    ensures { result ≡ lowest (chance_ok (meaning chain.now) region.now.grid (box_of region.now)) (meaning chain.now).states }
+    requires { region.now.rates ≡ (C.meaning chain.now).rates }
+    ensures { result ≡ lowest (chance_ok (C.meaning chain.now) region.now.grid (box_of region.now)) (C.meaning chain.now).states }
 {
     let mut row = NO_ROW;
     for state in 0..chain.states() {

@@ -22,7 +22,7 @@ fn answer_safe<C: Chain>(
     limit: u32,
     v: &[u32],
 ) -> Result<Verdict, Refusal>
-    ensures { result ≡ safe_judged (meaning chain.now) region.now limit v.now }
+    ensures { result ≡ safe_judged (C.meaning chain.now) region.now limit v.now }
 {
     if region.rates() != chain.rates() {
         return Err(Refusal::BadField);
@@ -54,9 +54,9 @@ pub fn judge_safe<C: Chain>(
     limit: u32,
     v: &[u32],
 ) -> Result<Verdict, Refusal>
-    ensures answer { result ≡ safe_judged (meaning chain.now) region.now limit v.now }
-    ensures exactly { Decides (is_ok result) ((region.now.rates ≡ (meaning chain.now).rates) × SafeWitness (meaning chain.now) region.now.grid (box_of region.now) limit v.now) }
-    ensures safe { is_ok result ≡ true → (x : Setting) → Inside (meaning chain.now).rates region.now.grid (box_of region.now) x → (k : ℕ) → KeepsTo (meaning chain.now) limit x k }
+    ensures answer { result ≡ safe_judged (C.meaning chain.now) region.now limit v.now }
+    ensures exactly { Decides (is_ok result) ((region.now.rates ≡ (C.meaning chain.now).rates) × SafeWitness (C.meaning chain.now) region.now.grid (box_of region.now) limit v.now) }
+    ensures safe { is_ok result ≡ true → (x : Setting) → Inside (C.meaning chain.now).rates region.now.grid (box_of region.now) x → (k : ℕ) → KeepsTo (C.meaning chain.now) limit x k }
 {
     answer_safe(chain, region, limit, v)
 }
@@ -77,7 +77,7 @@ fn answer_unsafe<C: Chain>(
     v: &[u32],
     w: &[u32],
 ) -> Result<Verdict, Refusal>
-    ensures { result ≡ unsafe_judged (meaning chain.now) region.now limit v.now w.now }
+    ensures { result ≡ unsafe_judged (C.meaning chain.now) region.now limit v.now w.now }
 {
     if region.rates() != chain.rates() {
         return Err(Refusal::BadField);
@@ -115,9 +115,9 @@ pub fn judge_unsafe<C: Chain>(
     v: &[u32],
     w: &[u32],
 ) -> Result<Verdict, Refusal>
-    ensures answer { result ≡ unsafe_judged (meaning chain.now) region.now limit v.now w.now }
-    ensures exactly { Decides (is_ok result) ((region.now.rates ≡ (meaning chain.now).rates) × UnsafeWitness (meaning chain.now) region.now.grid (box_of region.now) limit v.now w.now) }
-    ensures exceeds { is_ok result ≡ true → (x : Setting) → Inside (meaning chain.now).rates region.now.grid (box_of region.now) x → Exceeds (meaning chain.now) limit x (step_number (meaning chain.now) limit v.now w.now) }
+    ensures answer { result ≡ unsafe_judged (C.meaning chain.now) region.now limit v.now w.now }
+    ensures exactly { Decides (is_ok result) ((region.now.rates ≡ (C.meaning chain.now).rates) × UnsafeWitness (C.meaning chain.now) region.now.grid (box_of region.now) limit v.now w.now) }
+    ensures exceeds { is_ok result ≡ true → (x : Setting) → Inside (C.meaning chain.now).rates region.now.grid (box_of region.now) x → Exceeds (C.meaning chain.now) limit x (step_number (C.meaning chain.now) limit v.now w.now) }
 {
     answer_unsafe(chain, region, limit, v, w)
 }

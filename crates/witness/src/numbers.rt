@@ -16,7 +16,7 @@ fn numbers_ok(marked: bool, v: u32, w: u32) -> bool
 
 // The lowest state with a number that no witness may give it.
 pub(crate) fn first_bad_number<C: Chain>(chain: &C, v: &[u32], w: &[u32]) -> Option<u32>
-    ensures { result ≡ lowest (numbers_ok (meaning chain.now) v.now w.now) (meaning chain.now).states }
+    ensures { result ≡ lowest (numbers_ok (C.meaning chain.now) v.now w.now) (C.meaning chain.now).states }
 {
     for state in 0..chain.states() {
         if !numbers_ok(

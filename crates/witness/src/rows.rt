@@ -29,7 +29,7 @@ fn edge_term<T: Claim>(claim: &T, grid: u32, point: &[u32], edge: &EdgeRecord) -
     requires point_few { (p : ℕ) → at point.now p ≤ 1000 }
     requires few { length point.now ≤ 3 }
     requires small { Small 8000 edge.now.coefficients }
-    ensures product { result ≡ (said claim.now).number edge.now.successor · eval grid (at point.now) (length point.now) (entry edge.now.coefficients) }
+    ensures product { result ≡ (T.said claim.now).number edge.now.successor · eval grid (at point.now) (length point.now) (entry edge.now.coefficients) }
     ensures bound { unsigned_abs result ≤ 2 ^ 78 }
 {
     term(
@@ -43,7 +43,7 @@ fn weighed_sum<T: Claim>(claim: &T, region: &Region, point: &[u32], row: &RowRec
     requires readable { Readable region.now.rates row.now }
     requires point_few { (p : ℕ) → at point.now p ≤ 1000 }
     requires named { length point.now ≡ row.now.rate_count }
-    ensures sum { result ≡ mean region.now.grid (at point.now) (row_of row.now) (said claim.now).number }
+    ensures sum { result ≡ mean region.now.grid (at point.now) (row_of row.now) (T.said claim.now).number }
     ensures bound { unsigned_abs result ≤ 2 ^ 82 }
 {
     let grid = region.grid();
@@ -105,7 +105,7 @@ fn holds_at<T: Claim>(
 ) -> bool
     requires unit_few { unit ≤ 1000 }
     requires readable { Readable region.now.rates row.now }
-    ensures { result ≡ kept_at (said claim.now) unit region.now.grid (box_of region.now) (row_of row.now) state number }
+    ensures { result ≡ kept_at (T.said claim.now) unit region.now.grid (box_of region.now) (row_of row.now) state number }
 {
     let point = corner(region, row, number);
     let sum = weighed_sum(claim, region, &point[0..row.rate_count as usize], row);
@@ -124,7 +124,7 @@ fn failing_corner<T: Claim>(
 ) -> Option<u32>
     requires unit_few { unit ≤ 1000 }
     requires readable { Readable region.now.rates row.now }
-    ensures { result ≡ lowest (kept_at (said claim.now) unit region.now.grid (box_of region.now) (row_of row.now) state) (2 ^ named (row_of row.now)) }
+    ensures { result ≡ lowest (kept_at (T.said claim.now) unit region.now.grid (box_of region.now) (row_of row.now) state) (2 ^ named (row_of row.now)) }
 {
     for number in 0..table_size(row.rate_count as usize) as u32 {
         if !holds_at(claim, unit, region, row, state, number) {
@@ -142,9 +142,9 @@ fn state_holds<C: Chain, T: Claim>(
     state: u32,
     row: &mut RowRecord,
 ) -> bool
-    requires known { state < (meaning chain.now).states }
-    requires same { region.now.rates ≡ (meaning chain.now).rates }
-    ensures { result ≡ claim_ok (said claim.now) (meaning chain.now) region.now.grid (box_of region.now) state }
+    requires known { state < (C.meaning chain.now).states }
+    requires same { region.now.rates ≡ (C.meaning chain.now).rates }
+    ensures { result ≡ claim_ok (T.said claim.now) (C.meaning chain.now) region.now.grid (box_of region.now) state }
 {
     if !claim.tests(is_bad(chain, state), state) {
         return true;
@@ -162,8 +162,8 @@ pub(crate) fn first_failing<C: Chain, T: Claim>(
     claim: &T,
     region: &Region,
 ) -> Option<u32>
-    requires { region.now.rates ≡ (meaning chain.now).rates }
-    ensures { result ≡ lowest (claim_ok (said claim.now) (meaning chain.now) region.now.grid (box_of region.now)) (meaning chain.now).states }
+    requires { region.now.rates ≡ (C.meaning chain.now).rates }
+    ensures { result ≡ lowest (claim_ok (T.said claim.now) (C.meaning chain.now) region.now.grid (box_of region.now)) (C.meaning chain.now).states }
 {
     let mut row = NO_ROW;
     for state in 0..chain.states() {

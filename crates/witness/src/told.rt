@@ -8,8 +8,8 @@ use chain::record::RowRecord;
 
 // Whether a state is bad.
 pub(crate) fn is_bad<C: Chain>(chain: &C, state: u32) -> bool
-    requires { state < (meaning chain.now).states }
-    ensures { result ≡ bad (meaning chain.now) state }
+    requires { state < (C.meaning chain.now).states }
+    ensures { result ≡ bad (C.meaning chain.now) state }
 {
     match chain.mark(state) {
         Ok(mark) => mark == 1,
@@ -19,9 +19,9 @@ pub(crate) fn is_bad<C: Chain>(chain: &C, state: u32) -> bool
 
 // Fills the record with the row of a state.
 pub(crate) fn fill<C: Chain>(chain: &C, state: u32, into: &mut RowRecord)
-    requires { state < (meaning chain.now).states }
-    ensures row { row_of into.new ≡ (meaning chain.now).row state }
-    ensures readable { Readable (meaning chain.now).rates into.new }
+    requires { state < (C.meaning chain.now).states }
+    ensures row { row_of into.new ≡ (C.meaning chain.now).row state }
+    ensures readable { Readable (C.meaning chain.now).rates into.new }
 {
     match chain.row(state, into) {
         Ok(()) => {}

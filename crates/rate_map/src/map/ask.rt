@@ -119,7 +119,7 @@ impl<C: Chain> OpenMap<C> {
 
     // The volumes of the boxes, by verdict.
     pub fn measure(&self) -> Volumes
-        ensures { result ≡ volumesOf (meaning self.now.chain).rates (open_value self.now).boxes no_volumes }
+        ensures { result ≡ volumesOf (C.meaning self.now.chain).rates (open_value self.now).boxes no_volumes }
     {
         measure(self.chain.rates(), &self.table)
     }
@@ -142,7 +142,7 @@ impl<C: Chain> ClosedMap<C> {
 
     // The volumes of the boxes, by verdict.
     pub fn measure(&self) -> Volumes
-        ensures { result ≡ volumesOf (meaning self.now.chain).rates (closed_value self.now).boxes no_volumes }
+        ensures { result ≡ volumesOf (C.meaning self.now.chain).rates (closed_value self.now).boxes no_volumes }
     {
         measure(self.chain.rates(), &self.table)
     }

@@ -38,7 +38,7 @@ fn in_range(grid: u32, limit: u32) -> bool
 impl<C: Chain> OpenMap<C> {
     // Sets grid, limit and field while the map holds one open box. Refused with 8, 6 or 7, tried in this order.
     pub fn lay_out(&mut self, grid: u32, limit: u32, sides: &[u32]) -> Result<(), Refusal>
-        ensures change { Changes (laid_out (meaning self.old.chain) (open_value self.old) grid limit sides.now) (open_value self.old) result (open_value self.new) }
+        ensures change { Changes (laid_out (C.meaning self.old.chain) (open_value self.old) grid limit sides.now) (open_value self.old) result (open_value self.new) }
         ensures chain { self.new.chain ≡ self.old.chain }
     {
         if !is_unused(&self.table) {
@@ -65,7 +65,7 @@ impl<C: Chain> OpenMap<C> {
 
     // Cuts an open box at a place of a rate. Refused with 9, 10, 11 or 12, tried in this order.
     pub fn split(&mut self, number: u32, rate: u32, place: u32) -> Result<(), Refusal>
-        ensures change { Changes (splitValue (meaning self.old.chain) (open_value self.old) number rate place) (open_value self.old) result (open_value self.new) }
+        ensures change { Changes (splitValue (C.meaning self.old.chain) (open_value self.old) number rate place) (open_value self.old) result (open_value self.new) }
         ensures chain { self.new.chain ≡ self.old.chain }
     {
         let i = number as usize;
@@ -88,7 +88,7 @@ impl<C: Chain> OpenMap<C> {
 
     // The region of an open box: 9 where there is no such box, 10 where it is not open.
     fn region_of(&self, number: u32) -> Result<Region, Refusal>
-        ensures { MatchResult result (Regional (meaning self.now.chain) (open_value self.now) number) (λ e. for_box (open_value self.now) number (region_of (meaning self.now.chain) (open_value self.now) number) ≡ Err e) }
+        ensures { MatchResult result (Regional (C.meaning self.now.chain) (open_value self.now) number) (λ e. for_box (open_value self.now) number (region_of (C.meaning self.now.chain) (open_value self.now) number) ≡ Err e) }
     {
         let i = number as usize;
         if i >= self.table.len() {
@@ -119,8 +119,8 @@ impl<C: Chain> OpenMap<C> {
     // Takes a safe witness for an open box: the box is then safe, with the witness's bound. Refused with 9 or 10,
     // then with 16 to 19 or 21.
     pub fn safe_witness(&mut self, number: u32, v: &[u32]) -> Result<(), Refusal>
-        ensures change { Changes (safe_on (meaning self.old.chain) (open_value self.old) number v.now) (open_value self.old) result (open_value self.new) }
-        ensures exactly { Decides (is_ok result) (OpenBox (meaning self.old.chain) (open_value self.old) number × SafeWitness (meaning self.old.chain) self.old.grid (sides_of (box_at (used self.old.table) number)) self.old.limit v.now) }
+        ensures change { Changes (safe_on (C.meaning self.old.chain) (open_value self.old) number v.now) (open_value self.old) result (open_value self.new) }
+        ensures exactly { Decides (is_ok result) (OpenBox (C.meaning self.old.chain) (open_value self.old) number × SafeWitness (C.meaning self.old.chain) self.old.grid (sides_of (box_at (used self.old.table) number)) self.old.limit v.now) }
         ensures chain { self.new.chain ≡ self.old.chain }
     {
         match self.region_of(number) {
@@ -135,8 +135,8 @@ impl<C: Chain> OpenMap<C> {
     // Takes an unsafe witness for an open box: the box is then unsafe, with the witness's bound and step number.
     // Refused with 9 or 10, then with 16 to 21.
     pub fn unsafe_witness(&mut self, number: u32, v: &[u32], w: &[u32]) -> Result<(), Refusal>
-        ensures change { Changes (unsafe_on (meaning self.old.chain) (open_value self.old) number v.now w.now) (open_value self.old) result (open_value self.new) }
-        ensures exactly { Decides (is_ok result) (OpenBox (meaning self.old.chain) (open_value self.old) number × UnsafeWitness (meaning self.old.chain) self.old.grid (sides_of (box_at (used self.old.table) number)) self.old.limit v.now w.now) }
+        ensures change { Changes (unsafe_on (C.meaning self.old.chain) (open_value self.old) number v.now w.now) (open_value self.old) result (open_value self.new) }
+        ensures exactly { Decides (is_ok result) (OpenBox (C.meaning self.old.chain) (open_value self.old) number × UnsafeWitness (C.meaning self.old.chain) self.old.grid (sides_of (box_at (used self.old.table) number)) self.old.limit v.now w.now) }
         ensures chain { self.new.chain ≡ self.old.chain }
     {
         match self.region_of(number) {

@@ -11,7 +11,7 @@ use chain::interface::Chain;
 impl<C: Chain> OpenMap<C> {
     // A new map: the grid 1, the limit 0, and one open box from 0 to 1 in every rate.
     pub fn new(chain: C) -> OpenMap<C>
-        ensures value { open_value result ≡ new_map (meaning chain) }
+        ensures value { open_value result ≡ new_map (C.meaning chain) }
         ensures chain { result.chain ≡ chain }
     {
         let table = Table::one(laid_box(chain.rates(), &[0, 1, 0, 1, 0, 1, 0, 1]));

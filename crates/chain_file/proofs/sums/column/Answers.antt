@@ -15,11 +15,11 @@ loop-k-preserved c =
     let fits : SFits w16 x = search rules in
     let l : c.loop-k.k < length es = omega arith in
     let few : length es ≤ 8 = c.requires.1 in
-    let low = rw c.loop-k.sum_is at c.loop-k.invariant.1 in
-    let high = rw c.loop-k.sum_is at c.loop-k.invariant.2 in
+    let low = rw c.loop-k.sum-is at c.loop-k.invariant.1 in
+    let high = rw c.loop-k.sum-is at c.loop-k.invariant.2 in
     let sum : to_z w64 (of_z w64 (s +ℤ to_z w64 (of_z w64 (to_z w16 (of_z w16 x))))) ≡ s +ℤ x = omega (arith, ints) in
-    rw (c.loop-k.sum_is, sum)
-    (ap (λ t. t +ℤ x) (sym c.loop-k.sum_is ∙ c.loop-k.invariant.0) ∙ sym (column_take_more c.args.i es c.loop-k.k d l), omega (arith, ints), omega (arith, ints))
+    rw (c.loop-k.sum-is, sum)
+    (ap (λ t. t +ℤ x) (sym c.loop-k.sum-is ∙ c.loop-k.invariant.0) ∙ sym (column_take_more c.args.i es c.loop-k.k d l), omega (arith, ints), omega (arith, ints))
 
 pub returns : goal.returns
 returns c =

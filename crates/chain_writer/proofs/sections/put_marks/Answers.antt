@@ -4,7 +4,7 @@ use Rattle.chain_format.proofs.Laws.{length-bytes_of}
 use Rattle.chain_format.proofs.Written.{spell_none, counted_push, length-counted}
 use Rattle.chain_writer.proofs.Appending.{appends_none, appends_more}
 use Rattle.chain_writer.proofs.sections.put_marks.Goals as goal
-use Rattle.chain_writer.proofs.sections.put_marks.Goals.{in-Ok, in-default}
+use Rattle.chain_writer.proofs.sections.put_marks.Goals.{in-Ok, in_default}
 
 pub loop-state-init : goal.loop-state-init
 loop-state-init g c = rw spell_none (appends_none _ _)
@@ -17,5 +17,5 @@ loop-state-preserved g c =
     rw (counted_push (bytes_of 1) stay f i)
     (elim c.match-mark.branch [
       | in-Ok w ↦ rw (w.buffer-is, ← w.in-Ok.ensures.1) (appends_more _ _ _ c.args.at (c.args.at + i) _ _ (omega (arith, n)) c.loop-state.invariant w.put_number.ensures)
-      | in-default w ↦ absurd (omega (arith, w.in-default.ensures.0, c.states-states.ensures))
+      | in_default w ↦ absurd (omega (arith, w.in_default.ensures.0, c.states-states.ensures))
     ])

@@ -14,13 +14,13 @@ loop-i-preserved g c =
     let s = c.loop-i.sum in
     let t = c.edge_term-sum.result in
     let B : ℤ → Type 0 = λ z. nat_abs z ≤ 302231454903657293676544 * i in
-    let bs : nat_abs s ≤ 302231454903657293676544 * i = subst B c.loop-i.sum_is c.loop-i.invariant.1 in
+    let bs : nat_abs s ≤ 302231454903657293676544 * i = subst B c.loop-i.sum-is c.loop-i.invariant.1 in
     let few : i < 8 = omega arith in
-    let e = onto-is w128 _ s t c.loop-i.sum_is (record { sfits = c.edge_term-sum.type_inv }) (omega (arith, c.edge_term-sum.ensures.bound)) in
+    let e = onto-is w128 _ s t c.loop-i.sum-is (record { sfits = c.edge_term-sum.type_inv }) (omega (arith, c.edge_term-sum.ensures.bound)) in
     let P : ℤ → Type 0 = λ z. nat_abs z ≤ 302231454903657293676544 * (i + 1) in
     let f : EdgeRecord → ℤ = λ x. (g.T.Claim.said c.args.claim.now).number x.successor · worth c.grid-grid.result c.args.point.now x in
     let more = sum_more f c.args.row.now.edges i blank (omega (arith, c.requires.readable.edges_long)) in (
-      e ∙ ap (λ z. z +ℤ t) (sym c.loop-i.sum_is ∙ c.loop-i.invariant.0) ∙ ap (λ z. sumℤ f (take i c.args.row.now.edges) +ℤ z) c.edge_term-sum.ensures.product ∙ sym more,
+      e ∙ ap (λ z. z +ℤ t) (sym c.loop-i.sum-is ∙ c.loop-i.invariant.0) ∙ ap (λ z. sumℤ f (take i c.args.row.now.edges) +ℤ z) c.edge_term-sum.ensures.product ∙ sym more,
       subst P (sym e) (omega (arith, nat_abs_add s t, c.edge_term-sum.ensures.bound)),
     )
 

@@ -3,7 +3,7 @@ use Rattle.std.proofs.lemmas.Int.{to_z-of_z}
 use Rattle.witness.specs.Rows.{entry, Small, room}
 use Rattle.witness.proofs.Tables.{Halves, Rest, halves, rest_of, low_small, high_small, small_more, room_most, kept_small, only_rate}
 use Rattle.witness.proofs.value.+value.Goals as goal
-use Rattle.witness.proofs.value.+value.Goals.{After-set-last}
+use Rattle.witness.proofs.value.+value.Goals.{After-set_last}
 
 pub set_last-requires : goal.set_last-requires
 set_last-requires t c =
@@ -20,7 +20,7 @@ set_last-requires t c =
       same = h.low_long ∙ sym h.high_long;
     }
 
-rest : (t : _) (c : goal.After-set-last t) → Rest c.args.grid c.args.point.now c.args.table.now c.set_last.new.low
+rest : (t : _) (c : goal.After-set_last t) → Rest c.args.grid c.args.point.now c.args.table.now c.set_last.new.low
 rest t c =
     let some : 1 ≤ length c.args.point.now = search rules in
     rest_of c.args.grid c.args.point.now c.args.table.now c.split_at_mut-low.result.0.now c.split_at_mut-low.result.1.now _
@@ -29,12 +29,12 @@ rest t c =
     c.requires.small c.set_last.auto.low c.set_last.ensures
 
 pub value-requires : goal.value-requires
-value-requires t c = let r = rest t (goal.at.value-requires t c).After-set-last in
+value-requires t c = let r = rest t (goal.at.value-requires t c).After-set_last in
     (search rules, (c.requires.grid_few, (r.point_few, (r.few, (r.full, r.small)))))
 
 pub returns-in-len1-up : goal.returns-in-len1-up
 returns-in-len1-up t c =
-    let r = rest t (goal.at.returns-in-len1-up t c).After-set-last in
+    let r = rest t (goal.at.returns-in-len1-up t c).After-set_last in
     let e = to_z-of_z w64 c.value.result (record { sfits = c.value.type_inv }) in
     let B : ℤ → Type 0 = λ z. nat_abs z ≤ room 0 in
     record { worth = e ∙ c.value.ensures.worth ∙ sym r.worth; bound = subst B (sym e) c.value.ensures.bound }
