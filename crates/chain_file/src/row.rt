@@ -105,7 +105,7 @@ pub(crate) struct Found {
 
 pub(crate) fn read_named(bytes: &[u8], end: usize, at: usize, rates: u32) -> Result<Named, Refusal>
     requires { (at ≤ end) × ((end ≤ length bytes.now) × ((rates ≤ 256) × (at + 4 < 2 ^ 31))) }
-    ensures* { λ r. ⌜ MatchResult r (λ t. (xs : List ℕ) × (counted (part bytes.now end BadRow) 1 (within 0 3) (rate (part bytes.now end BadRow) rates) (λ _ r. r + 1) 0 at ≡ got xs (at + 1 + t.count)) × (t.rates ≡ padded 3 0 xs) × (t.count ≡ length xs) × (t.count ≤ 3) × (at + 1 + t.count ≤ end)) (λ e. counted (part bytes.now end BadRow) 1 (within 0 3) (rate (part bytes.now end BadRow) rates) (λ _ r. r + 1) 0 at ≡ refused e) ⌝ }
+    ensures { MatchResult result (λ t. (xs : List ℕ) × (counted (part bytes.now end BadRow) 1 (within 0 3) (rate (part bytes.now end BadRow) rates) (λ _ r. r + 1) 0 at ≡ got xs (at + 1 + t.count)) × (t.rates ≡ padded 3 0 xs) × (t.count ≡ length xs) × (t.count ≤ 3) × (at + 1 + t.count ≤ end)) (λ e. counted (part bytes.now end BadRow) 1 (within 0 3) (rate (part bytes.now end BadRow) rates) (λ _ r. r + 1) 0 at ≡ refused e) }
 {
     let count = field_at(bytes, end, Section::Rows, 1, at, 0, 4)?;
     let mut named = [0u8; 3];

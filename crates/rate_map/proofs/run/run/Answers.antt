@@ -15,11 +15,11 @@ use Rattle.rate_map.proofs.Promised.{promised}
 use Rattle.rate_map.proofs.run.run.Goals as goal
 
 pub loop-call-init : goal.loop-call-init
-loop-call-init g c = (refl, c.new_map.ensures.value ∙ ap (λ x. new_map (g.C.Chain.meaning x)) (sym c.new_map.ensures.chain), c.new-answers.ensures.items)
+loop-call-init g c = (refl, c.new-map.ensures.value ∙ ap (λ x. new_map (g.C.Chain.meaning x)) (sym c.new-map.ensures.chain), c.new-answers.ensures.items)
 
 pub obey-answer-requires : goal.obey-answer-requires
 obey-answer-requires g c =
-    let x = c.new_map.result.chain in
+    let x = c.new-map.result.chain in
     let k = g.C.Chain.meaning x in
     let s = (runs_are_sound k (g.C.Chain.lawful x) (map command (take c.loop-call.call-index c.args.calls.now))).1.proper in
     let P : MapValue → Type 0 = λ m. Fit k m in
@@ -27,7 +27,7 @@ obey-answer-requires g c =
     subst Q (sym c.loop-call.invariant.0) (subst P (sym c.loop-call.invariant.1) s)
 
 pub returns-in-Err : goal.returns-in-Err
-returns-in-Err g c = c.into_chain.ensures ∙ c.obey-answer.ensures.chain ∙ c.loop-call.invariant.0 ∙ c.new_map.ensures.chain
+returns-in-Err g c = c.into_chain.ensures ∙ c.obey-answer.ensures.chain ∙ c.loop-call.invariant.0 ∙ c.new-map.ensures.chain
 
 -- what a list of calls is read as past its end
 abbrev no_call : Call
@@ -35,7 +35,7 @@ no_call = LayOut 0 0 (record { ref_ptr = (0, 0); now = [] })
 
 pub loop-call-preserved : goal.loop-call-preserved
 loop-call-preserved g c =
-    let k = g.C.Chain.meaning c.new_map.result.chain in
+    let k = g.C.Chain.meaning c.new-map.result.chain in
     let same = c.loop-call.invariant.0 in
     let before = open_value c.loop-call.map in
     let value = c.obey-answer.ensures.value ∙ ap (λ x. after (g.C.Chain.meaning x) before (command (get_or c.args.calls.now c.loop-call.call-index no_call))) same in
@@ -48,7 +48,7 @@ loop-call-preserved g c =
 
 pub returns : goal.returns
 returns g c =
-    let x = c.new_map.result.chain in
+    let x = c.new-map.result.chain in
     let k = g.C.Chain.meaning x in
     let calls = c.args.calls.now in
     let value : open_value c.loop-call.map ≡ run_from k (new_map k) (map command calls)
@@ -56,6 +56,6 @@ returns g c =
     let answered : vec_items c.loop-call.answers ≡ answers_from k (new_map k) (map command calls)
     = c.loop-call.invariant.2 ∙ ap (λ t. answers_from k (new_map k) (map command t)) (take_all c.loop-call.call-index calls c.loop-call-test.false) in
     let P : g.row.C.Denot → Type 0 = λ y. Promised (g.C.Chain.meaning y) y (map command calls) c.args.close (record { map = c.end.result; answers = c.loop-call.answers }) in
-    subst P c.new_map.ensures.chain
+    subst P c.new-map.ensures.chain
     (promised k x (g.C.Chain.lawful x) (map command calls) c.args.close (record { map = c.end.result; answers = c.loop-call.answers })
     (c.end.ensures.value ∙ value) answered (c.end.ensures.chain ∙ c.loop-call.invariant.0) c.end.ensures.closed)

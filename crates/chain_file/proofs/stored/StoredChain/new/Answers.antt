@@ -9,7 +9,17 @@ pub invariant_of-result : goal.invariant_of-result
 unfolding bytes_of spell
 invariant_of-result c =
     let t = told _ first_fits first_opens in
-    (first_fits, (first_opens, ((read_then_write _ first_fits first_opens).1, (t.long, (t.states, (t.rates, (t.unit, (t.start, (t.mark, tt)))))))))
+    record {
+      fit = first_fits;
+      ok = first_opens;
+      again = (read_then_write _ first_fits first_opens).1;
+      long = t.long;
+      states = t.states;
+      rates = t.rates;
+      unit = t.unit;
+      start = t.start;
+      marks = t.mark;
+    }
 
 pub returns : goal.returns
 unfolding bytes_of spell

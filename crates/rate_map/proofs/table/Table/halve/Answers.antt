@@ -13,17 +13,13 @@ invariant_of-self c =
     let P : BoxRecord → Type 0 = λ x. Few x in
     let low : Few c.low_half.result = subst P (sym c.low_half.ensures) (low_few b c.args.rate c.args.place fb c.requires.few) in
     let high : Few c.high_half.result = subst P (sym c.high_half.ensures) fb in
-    let long = length-take-le t.used t.boxes (omega arith) in (
-      omega arith,
-      (
-        simp length-set t.size,
-        (
-          kept_set Few (set t.boxes c.args.i c.low_half.result) t.used c.high_half.result no_box
-              (kept_set Few t.boxes c.args.i c.low_half.result no_box t.few low) high,
-          tt,
-        ),
-      ),
-    )
+    let long = length-take-le t.used t.boxes (omega arith) in
+    record {
+      room = omega arith;
+      size = simp length-set t.size;
+      few = kept_set Few (set t.boxes c.args.i c.low_half.result) t.used c.high_half.result no_box
+          (kept_set Few t.boxes c.args.i c.low_half.result no_box t.few low) high;
+    }
 
 pub returns : goal.returns
 returns c =
