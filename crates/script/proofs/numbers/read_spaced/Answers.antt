@@ -3,7 +3,7 @@ use Rattle.std.proofs.lemmas.List.{append_assoc, append-nil}
 use Rattle.script.specs.Reading.{fit}
 use Rattle.script.proofs.Digits.{reached_none, stuck_digit, stuck_other, stuck_end, next_digit, next_space, read_end, reached_at}
 use Rattle.script.proofs.numbers.read_spaced.Goals as goal
-use Rattle.script.proofs.numbers.read_spaced.Goals.{then-b-ne32-via-then-b-ne32, then-b-ne32-via-else-b-ne32+then-not-is-number, then-is-digit+else-count-ge10+else-value-ge-LIMIT, else-is-digit+else-b-ne32+else-not-is-number+in-ok-push}
+use Rattle.script.proofs.numbers.read_spaced.Goals.{then-b-ne32-via-then-b-ne32, then-b-ne32-via-else-b-ne32+then-not-is_number, then-is_digit+else-count-ge10+else-value-ge-LIMIT, else-is_digit+else-b-ne32+else-not-is_number+in_ok-push}
 
 pub loop-byte-init : goal.loop-byte-init
 loop-byte-init c = (omega arith, omega arith, ([], sym (append-nil _), reached_none _))
@@ -19,7 +19,7 @@ returns-then-b-ne32 c =
     let why : (get_or c.args.text.now c.loop-byte.byte-index 0 ≡ 32 → ⊥) ⊎ (fit c.loop-byte.count c.loop-byte.value ≡ false) =
     elim c.then-b-ne32.branch [
       | then-b-ne32-via-then-b-ne32 w ↦ inl w.if-b-ne32.true
-      | then-b-ne32-via-else-b-ne32+then-not-is-number w ↦ inr (sym w.is_number.ensures ∙ w.if-not-is_number.true)
+      | then-b-ne32-via-else-b-ne32+then-not-is_number w ↦ inr (sym w.is_number.ensures ∙ w.if-not-is_number.true)
     ] in
     (i.0, stuck_other i.2 c.loop-byte-test.true (sym c.is_digit.ensures ∙ c.if-is_digit.false) why, i.1)
 
@@ -27,13 +27,13 @@ pub loop-byte-preserved : goal.loop-byte-preserved
 loop-byte-preserved c =
     let i = c.loop-byte.invariant.2 in
     elim c.if-is_digit.branch [
-      | then-is-digit+else-count-ge10+else-value-ge-LIMIT w ↦
+      | then-is_digit+else-count-ge10+else-value-ge-LIMIT w ↦
           let small : get_or c.args.text.now c.loop-byte.byte-index 0 < 256 = (c.type_inv.text c.loop-byte.byte-index).fits in (
             omega (arith, w.count-is, w.if-count-ge10.false),
             omega (arith, w.value-is, w.if-value-ge-LIMIT.false, small),
             (i.0, ap vec_items w.numbers-is ∙ i.1, reached_at w.count-is w.value-is (next_digit i.2 c.loop-byte-test.true (sym c.is_digit.ensures ∙ w.if-is_digit.true))),
           )
-      | else-is-digit+else-b-ne32+else-not-is-number+in-ok-push w ↦
+      | else-is_digit+else-b-ne32+else-not-is_number+in_ok-push w ↦
           let items = w.in_ok-push.ensures.items in (
             omega (arith, w.count-is),
             omega (arith, w.value-is),
