@@ -6,6 +6,6 @@ use Rattle.timed.proofs.judge_safe.Goals as goal
 pub returns : goal.returns
 returns g c =
     let meaning = g.C.Chain.meaning in
-    let laid = laid-value meaning c.args.chain _ _ _ c.args.grid c.args.limit c.args.sides.now c.new_map.ensures.chain c.new_map.ensures.value c.lay_out.ensures.change.left in
+    let laid = laid-value meaning c.args.chain _ _ _ c.args.grid c.args.limit c.args.sides.now c.new-map.ensures.chain c.new-map.ensures.value c.lay_out.ensures.change.left in
     judged-number meaning c.args.chain _ _ c.args.grid c.args.limit c.args.sides.now (λ x m. safe_on x m 0 c.args.v.now) c.number_of.result _ c.number_of.ensures
-    c.safe_witness.ensures.change.answer (c.lay_out.ensures.chain ∙ c.new_map.ensures.chain) laid
+    c.safe_witness.ensures.change.answer (c.lay_out.ensures.chain ∙ c.new-map.ensures.chain) laid

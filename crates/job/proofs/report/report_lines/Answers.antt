@@ -3,7 +3,7 @@ use Rattle.sheet.specs.Sheet.{answer_line}
 use Rattle.script.proofs.Lines.{count_said}
 use Rattle.job.proofs.Texts.{reported_none, reported_bad, reported_call, reported_end, reported_short, reported_all, reported_at}
 use Rattle.job.proofs.report.report_lines.Goals as goal
-use Rattle.job.proofs.report.report_lines.Goals.{in-Bad+in_ok-report_answer, in-Do+else-next-answers+in_ok-report_answer-2}
+use Rattle.job.proofs.report.report_lines.Goals.{in-Bad+in_ok-report_answer-in-Bad, in-Do+else-next-answers+in_ok-report_answer-in-Do}
 
 pub loop-i-init : goal.loop-i-init
 loop-i-init c = reported_none _ _ _ _
@@ -18,13 +18,13 @@ returns-then-next-answers c =
 pub loop-i-preserved : goal.loop-i-preserved
 loop-i-preserved c =
     elim c.match-step.branch [
-      | in-Bad+in_ok-report_answer w ↦
+      | in-Bad+in_ok-report_answer-in-Bad w ↦
           reported_at (ap vec_items w.out-is) w.next-is
-          (reported_bad c.loop-i.invariant (omega (arith, c.len-i-end.ensures, count_said c.args.states c.args.script.now, c.loop-i-test.true)) w.in-Bad.ensures _ w.in_ok-report_answer.ensures)
-      | in-Do+else-next-answers+in_ok-report_answer-2 w ↦
+          (reported_bad c.loop-i.invariant (omega (arith, c.len-i-end.ensures, count_said c.args.states c.args.script.now, c.loop-i-test.true)) w.in-Bad.ensures _ w.in_ok-report_answer-in-Bad.ensures)
+      | in-Do+else-next-answers+in_ok-report_answer-in-Do w ↦
           reported_at (ap vec_items w.out-is) w.next-is
           (reported_call c.loop-i.invariant (omega (arith, c.len-i-end.ensures, count_said c.args.states c.args.script.now, c.loop-i-test.true)) _ w.in-Do.ensures w.if-next-answers.false _
-          (w.in_ok-report_answer-2.ensures ∙ ap (λ b. vec_items c.loop-i.out ++ answer_line b c.args.rates _) w.box_of.ensures))
+          (w.in_ok-report_answer-in-Do.ensures ∙ ap (λ b. vec_items c.loop-i.out ++ answer_line b c.args.rates _) w.box_of.ensures))
     ]
 
 pub returns : goal.returns
