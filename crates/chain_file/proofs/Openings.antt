@@ -1,5 +1,5 @@
 -- How long a file is that opens, and the file that a stored chain begins with.
-use Rattle.std.proofs.Common.{◌≡◌, ℕ, zero, suc, ◌+◌, ◌*◌, ◌^◌, ◌<◌, ◌≤◌, List, length, refl, arith}
+use Rattle.std.proofs.Common.{◌≡◌, ℕ, zero, suc, ◌^◌, ◌<◌, ◌≤◌, List, length, refl, arith}
 use Rattle.chain_format.specs.Reader.{value_at, bytes_of, number, after, ◌then◌, done, mapped, tested, checked, repeat, spell}
 use Rattle.chain_format.specs.Format.{version1, balanced, file_of, opened, encode, file_in, Opens, chain_in}
 use Rattle.chain_format.specs.Same.{Same}

@@ -1,20 +1,20 @@
 -- From the list of calls to the whole job.
-use Rattle.std.proofs.Common.{◌≡◌, ℕ, ◌<◌, ◌≤◌, Bool, true, cond, leb, List, [], ◌++◌, length, vec_items, sym, refl, ap, ◌∙◌, arith}
+use Rattle.std.proofs.Common.{◌≡◌, ℕ, ◌<◌, ◌≤◌, Bool, true, cond, leb, List, [], ◌++◌, length, vec_items, sym, refl, ap, ◌∙◌}
 use Rattle.std.proofs.lemmas.Bool.{cond-true, cond-false, le-leb, lt-leb, false≢true}
 use Rattle.chain.specs.Chains.{Meaning}
 use Rattle.chain.specs.declared.refusal.Refusal.{Refusal}
 use Rattle.chain.specs.declared.refusal.Refusal.TheVariants.{TooLong}
 use Rattle.chain_format.specs.Reader.{Answer as Read, refused, got}
 use Rattle.chain_format.specs.Format.{File, opened, meaning, file_in, taken, Opens, chain_in}
-use Rattle.theory.specs.Maps.{MapValue, new_map}
-use Rattle.theory.specs.Runs.{Command, run_from, answers_from}
+use Rattle.theory.specs.Maps.{new_map}
+use Rattle.theory.specs.Runs.{Command, run_from}
 use Rattle.rate_map.specs.declared.run.Ran.{Ran}
 use Rattle.rate_map.specs.Promise.{Promised, ended_value, chain_of, is_closed}
 use Rattle.sheet.specs.Sheet.{refused_line}
 use Rattle.script.specs.Grammar.{Said, ScriptSays}
 use Rattle.script.specs.Reading.{script_said, commands, closes}
 use Rattle.job.specs.Output.{most_bytes, texts, sheet_of, shown, map_output, opened_output, job_output}
-use Rattle.job.specs.Promise.{Runs, Mapped}
+use Rattle.job.specs.Promise.{Mapped}
 
 -- what is shown of a script, its answers and the map that it ends with, in the words of that map's type
 module _ {C : Type 0} (meaning_of : C → Meaning) (chain : C) (script : List ℕ) (said : List Said) (r : Ran C) where

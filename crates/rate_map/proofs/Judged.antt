@@ -5,7 +5,6 @@ use Rattle.chain.specs.Chains.{Meaning}
 use Rattle.chain.specs.declared.refusal.Refusal.{Refusal}
 use Rattle.chain.specs.declared.refusal.Refusal.TheVariants.{NoBox, NotOpen, BadField}
 use Rattle.theory.specs.declared.verdict.Verdict.{Verdict}
-use Rattle.theory.specs.Boxes.{Box}
 use Rattle.theory.specs.Witness.{at}
 use Rattle.theory.specs.Answers.{need, safe_answer, unsafe_answer}
 use Rattle.theory.specs.Maps.{MapValue, box_at, sides_of, is_open, for_box, keeping}

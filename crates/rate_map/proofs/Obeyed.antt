@@ -1,16 +1,14 @@
 -- One call of a list: its answer and what it leaves are those defined.
-use Rattle.std.proofs.Common.{◌≡◌, ℕ, suc, ◌<◌, ◌≤◌, Bool, true, false, ◌&&◌, ltb, leb, List, length, Ok, Err, Result, sym, refl, ap, ◌∙◌, inl, inr, arith}
-use Rattle.std.proofs.lemmas.Bool.Decides.{nat_tests, leb_tells, Decides-ltb}
+use Rattle.std.proofs.Common.{◌≡◌, ℕ, suc, ◌<◌, ◌≤◌, Bool, true, ◌&&◌, leb, List, length, Ok, Err, Result, sym, refl, ap, ◌∙◌, inl, inr, arith}
+use Rattle.std.proofs.lemmas.Bool.Decides.{nat_tests, leb_tells}
 use Rattle.chain.specs.Chains.{Meaning, Lawful}
 use Rattle.chain.specs.declared.refusal.Refusal.{Refusal}
 use Rattle.chain.specs.declared.refusal.Refusal.TheVariants.{NoBox, NotOpen, BadGrid, BadField}
 use Rattle.theory.specs.declared.record.Answer.{Answer}
 use Rattle.theory.specs.Words.{passes}
-use Rattle.theory.specs.Boxes.{Proper}
-use Rattle.theory.specs.Witness.{at}
 use Rattle.theory.specs.Answers.{need, safe_answer, unsafe_answer}
 use Rattle.theory.specs.Maps.{MapValue, box_at, sides_of, side_ok, is_open, for_box, keeping, safe_call, unsafe_call}
-use Rattle.theory.specs.Runs.{Command, or_kept, done, changed, after, answer}
+use Rattle.theory.specs.Runs.{or_kept, done}
 use Rattle.theory.proofs.Lowest.{passes_decides}
 use Rattle.rate_map.specs.Calls.{Changes, taken, answered, on_region, region_of, safe_on, unsafe_on, Fit}
 

@@ -1,9 +1,8 @@
 -- Changes of a table of boxes, seen in the boxes in use.
-use Rattle.std.proofs.Common.{◌≡◌, ℕ, zero, suc, ◌+◌, ◌<◌, ◌≤◌, ◌≢◌, List, [], ◌∷◌, ◌++◌, length, get_or, take, set, replicate, sym, refl, ap, ◌∙◌, inl, inr, zero-le, arith, get_or-set_other, get_or-set_same}
-use Rattle.std.proofs.lemmas.List.{get_or-take, take_more_set, length-set, get_or_past}
-use Rattle.std.proofs.lemmas.Bool.Decides.{eqb_tells, leb_tells}
+use Rattle.std.proofs.Common.{◌≡◌, ℕ, zero, suc, ◌+◌, ◌<◌, ◌≤◌, List, [], ◌∷◌, ◌++◌, length, get_or, take, set, replicate, sym, refl, ap, ◌∙◌}
+use Rattle.std.proofs.lemmas.List.{get_or-take, take_more_set, length-set}
 use Rattle.theory.specs.declared.record.BoxRecord.{BoxRecord}
-use Rattle.theory.specs.Maps.{no_box, low_half, high_half, judged}
+use Rattle.theory.specs.Maps.{no_box, low_half}
 
 take_set_in : {X : Type 0} (n : ℕ) (xs : List X) (i : ℕ) (y : X) → take n (set xs i y) ≡ set (take n xs) i y
 take_set_in zero xs i y = refl

@@ -2,7 +2,7 @@
 use Rattle.std.specs.Prelude.{◌≡◌, Bool, true, false, List, vec_items}
 use Rattle.chain.specs.Chains.{Meaning}
 use Rattle.theory.specs.Maps.{MapValue, new_map}
-use Rattle.theory.specs.Runs.{Command, run_from, answers_from, Layout, as_made, last_laid, Guarantee, Orderly}
+use Rattle.theory.specs.Runs.{Command, run_from, answers_from, as_made, last_laid, Guarantee, Orderly}
 use Rattle.rate_map.specs.declared.run.Ended.{Ended}
 use Rattle.rate_map.specs.declared.run.Ended.TheVariants.{Open, Closed}
 use Rattle.rate_map.specs.declared.run.Ran.{Ran}

@@ -1,9 +1,9 @@
 -- The lines of a script, and lines whose numbers stand among the numbers of the script.
-use Rattle.std.proofs.Common.{◌≡◌, ℕ, zero, suc, ◌+◌, ◌-◌, ◌<◌, ◌≤◌, Bool, true, false, cond, ◌&&◌, eqb, leb, List, [], ◌∷◌, ◌++◌, map, length, get_or, take, drop, Some, None, vec_items, Option, sym, refl, ap, ◌∙◌, ⊎_elim, arith}
+use Rattle.std.proofs.Common.{◌≡◌, ℕ, zero, suc, ◌+◌, ◌-◌, ◌<◌, ◌≤◌, Bool, true, false, ◌&&◌, eqb, leb, List, [], ◌∷◌, ◌++◌, map, length, get_or, take, drop, vec_items, Option, sym, refl, ap, ◌∙◌, ⊎_elim, arith}
 use Rattle.std.specs.List.{AllByRecursion as All}
 use Rattle.std.proofs.lemmas.List.{append-nil, append_assoc, length-append, map-append, drop-append-le, take-append-le, length-drop, drop_at, take_all, get_or_past, get_or-map, length-map}
 use Rattle.std.proofs.lemmas.Bool.{cases_Bool, cond-true, cond-false, eq-eqb, ne_eqb, le-leb, leb-true, and_from, and_left}
-use Rattle.script.specs.Grammar.{Said, bad}
+use Rattle.script.specs.Grammar.{bad}
 use Rattle.script.specs.Reading.{said, spelling, numbers_in, line_said, on_first, lines_of}
 use Rattle.script.specs.Values.{said_in, line_count, said_by, Placed, LineRead, Adds}
 use Rattle.script.specs.declared.line.Script.{Script}

@@ -2,7 +2,7 @@
 use Rattle.std.specs.Prelude.{◌≡◌, ℕ, ◌+◌, ◌-◌, ◌*◌, ◌^◌, Bool, true, false, cond, ◌&&◌, List, [], ◌∷◌, map, take, drop, Some, None, Option, ◌==◌, nat_le, nat_lt}
 use Rattle.std.specs.Option.{option_map}
 use Rattle.theory.specs.Runs.{Command, lay_out, cut, show_safe, show_unsafe, find_box}
-use Rattle.script.specs.Grammar.{Said, bad, end, call, Says, Ends, ScriptSays}
+use Rattle.script.specs.Grammar.{Said, bad, end, call, ScriptSays}
 
 -- ---- numbers
 abbrev pub digit : ℕ → Bool

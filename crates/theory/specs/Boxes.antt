@@ -1,5 +1,5 @@
 -- Boxes of rates on a grid, their corners, and the settings in them.
-use Rattle.std.specs.Prelude.{◌≡◌, ℕ, ◌*◌, ◌^◌, ◌<◌, ◌≤◌, cond, ◌⊎◌, ◌==◌}
+use Rattle.std.specs.Prelude.{◌≡◌, ℕ, ◌*◌, ◌<◌, ◌≤◌, cond, ◌⊎◌, ◌==◌}
 use Rattle.chain.specs.Chains.{Row}
 use Rattle.theory.specs.Values.{named, of, bit}
 

@@ -1,5 +1,5 @@
 -- Lists of calls on a new map, and what is promised of the map that they make.
-use Rattle.std.specs.Prelude.{◌≡◌, ℕ, ◌+◌, ◌*◌, ◌<◌, cond, ltb, List, [], ◌∷◌, length, Ok, Err, Result}
+use Rattle.std.specs.Prelude.{◌≡◌, ℕ, ◌+◌, ◌*◌, ◌<◌, List, [], ◌∷◌, length, Ok, Err, Result}
 use Rattle.chain.specs.Chains.{Meaning, Lawful}
 use Rattle.chain.specs.declared.refusal.Refusal.{Refusal}
 use Rattle.theory.specs.declared.verdict.Verdict.TheVariants.{Safe, Unsafe}

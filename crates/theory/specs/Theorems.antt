@@ -1,5 +1,5 @@
 -- What is proved of the definitions; each stands in the contract of a function.
-use Rattle.std.specs.Prelude.{◌≡◌, ℕ, ◌-◌, ◌*◌, ◌^◌, ◌<◌, ◌≤◌, true, List, ℤ, pos, ◌+ℤ◌, ◌≤ℤ◌, is_ok, Ok}
+use Rattle.std.specs.Prelude.{◌≡◌, ℕ, ◌-◌, ◌*◌, ◌^◌, ◌≤◌, true, List, pos, ◌+ℤ◌, ◌≤ℤ◌, is_ok, Ok}
 use Rattle.chain.specs.Chains.{Meaning, Row, Edge, Lawful, LawfulRow}
 use Rattle.theory.specs.declared.verdict.Verdict.TheVariants.{Safe, Unsafe}
 use Rattle.theory.specs.Words.{◌·◌, sumℤ}

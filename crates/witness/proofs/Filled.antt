@@ -1,5 +1,5 @@
 -- The record that a chain fills with a lawful row can be read, and gives the row back.
-use Rattle.std.proofs.Common.{◌≡◌, ℕ, zero, suc, ◌+◌, ◌-◌, ◌^◌, ◌<◌, ◌≤◌, List, [], ◌∷◌, ◌++◌, map, length, get_or, take, replicate, ℤ, pos, negsuc, nat_abs, ◌≤ℤ◌, sym, refl, ap, ◌∙◌, inl, inr, zero-le, le_trans, arith, pow_mono}
+use Rattle.std.proofs.Common.{◌≡◌, ℕ, zero, suc, ◌+◌, ◌-◌, ◌^◌, ◌<◌, ◌≤◌, List, [], ◌∷◌, map, length, get_or, replicate, ℤ, pos, negsuc, nat_abs, refl, ap, ◌∙◌, inl, inr, zero-le, arith}
 use borrow.Author.Differences.{ints}
 use Rattle.std.specs.List.{AllByRecursion as All}
 use Rattle.std.proofs.lemmas.List.{take_at, length-append, length-replicate, length-map, get_or_past}
@@ -7,8 +7,7 @@ use Rattle.std.proofs.ByRecursion.{All-get_or, All-append, All-map, All-weaker}
 use Rattle.std.proofs.lemmas.Bool.Decides.{leb_tells}
 use Rattle.chain.specs.Chains.{Edge, Row, Ascends, Limited, LawfulEdge, LawfulRow}
 use Rattle.chain.specs.Filled.{padded, no_edge, filled_edge, filled}
-use Rattle.chain.specs.declared.record.EdgeRecord.{EdgeRecord}
-use Rattle.witness.specs.Rows.{entry, Small, blank, edge_of, row_of, Readable}
+use Rattle.witness.specs.Rows.{Small, blank, edge_of, row_of, Readable}
 
 -- ---- padded lists
 padded_long : {X : Type 0} (k : ℕ) (d : X) (xs : List X) → length xs ≤ k → length (padded k d xs) ≡ k

@@ -1,5 +1,5 @@
 -- What an answer to a witness says of the region's settings.
-use Rattle.std.proofs.Common.{◌≡◌, ℕ, ◌<◌, ◌≤◌, Bool, true, false, not, ◌&&◌, ◌||◌, eqb, leb, List, length, is_ok, None, Ok, Err, Decides, Result, sym, refl, ap, ◌∙◌, inl, inr, true≢false}
+use Rattle.std.proofs.Common.{◌≡◌, ℕ, Bool, true, false, not, ◌&&◌, ◌||◌, eqb, leb, List, length, is_ok, None, Ok, Err, Decides, Result, sym, refl, ap, ◌∙◌, inl, inr, true≢false}
 use Rattle.std.proofs.lemmas.Bool.Decides.{eqb_tells, Decides-eqb}
 use Rattle.chain.specs.Chains.{Meaning, Lawful, bad}
 use Rattle.chain.specs.declared.refusal.Refusal.{Refusal}
@@ -7,10 +7,10 @@ use Rattle.chain.specs.declared.refusal.Refusal.TheVariants.{BadChance, BadBound
 use Rattle.theory.specs.declared.verdict.Verdict.{Verdict}
 use Rattle.theory.specs.declared.verdict.Verdict.TheVariants.{Safe}
 use Rattle.theory.specs.Words.{lowest}
-use Rattle.theory.specs.Boxes.{Box, Proper, Setting, Inside}
+use Rattle.theory.specs.Boxes.{Proper, Setting, Inside}
 use Rattle.theory.specs.Chance.{KeepsTo, Exceeds}
 use Rattle.theory.specs.Witness.{SafeWitness, UnsafeWitness, step_number, at, at_most}
-use Rattle.theory.specs.Answers.{need, each, number_ok, numbers_ok, chance_ok, claim_ok, safe_answer, unsafe_answer}
+use Rattle.theory.specs.Answers.{need, each, number_ok, numbers_ok, chance_ok, claim_ok}
 use Rattle.theory.proofs.Lowest.{lowest_same}
 use Rattle.theory.proofs.Sound.{safe_is_safe, unsafe_is_unsafe}
 use Rattle.theory.proofs.Taken.{safe_taken_exactly, unsafe_taken_exactly}

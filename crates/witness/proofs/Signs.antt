@@ -1,7 +1,6 @@
 -- Signed numbers of a width as the code computes them.
-use Rattle.std.proofs.Common.{◌≡◌, ℕ, zero, suc, ◌+◌, ◌-◌, ◌*◌, ◌^◌, ◌<◌, ◌≤◌, ℤ, pos, negsuc, ◌+ℤ◌, ◌*ℤ◌, neg_ℤ, nat_abs, sym, refl, ap, ◌∙◌, mul-le-mul, arith, SFits, to_z, of_z}
+use Rattle.std.proofs.Common.{◌≡◌, ℕ, zero, suc, ◌+◌, ◌*◌, ◌^◌, ◌<◌, ◌≤◌, ℤ, pos, negsuc, ◌+ℤ◌, ◌*ℤ◌, neg_ℤ, nat_abs, refl, mul-le-mul, arith, SFits, to_z, of_z}
 use lib.IntN.{sub_ℕ}
-use lib.Signed.{mag}
 use mir.Val.{hbits}
 use mir.Syntax.{Width}
 use Rattle.std.proofs.lemmas.Int.{to_z-of_z, to_z_pos, ints}

@@ -1,5 +1,5 @@
 -- What the code's tests of a row say of the row.
-use Rattle.std.proofs.Common.{◌≡◌, ℕ, ◌+◌, ◌*◌, ◌^◌, ◌<◌, ◌≤◌, Bool, true, false, cond, List, length, take, ℤ, pos, ◌+ℤ◌, Option, sym, refl, ap, ◌∙◌, arith, SFits, to_z, of_z}
+use Rattle.std.proofs.Common.{◌≡◌, ℕ, ◌^◌, ◌<◌, Bool, true, cond, List, take, ℤ, pos, Option, sym, ap, ◌∙◌, arith, SFits, to_z, of_z}
 use mathlib.Core.Path.{fun_ext}
 use lib.Signed.{le_z}
 use mir.Syntax.{w128}
@@ -10,7 +10,7 @@ use Rattle.chain.specs.declared.record.RowRecord.{RowRecord}
 use Rattle.theory.specs.Words.{◌·◌, sumℤ, every, lowest, is_none}
 use Rattle.theory.specs.Values.{named, coef}
 use Rattle.theory.specs.Boxes.{Box, corner_of}
-use Rattle.theory.specs.Witness.{Said, at, mean, scale}
+use Rattle.theory.specs.Witness.{Said, at, mean}
 use Rattle.theory.specs.Answers.{possible, possible_at, chance_ok, in_order, kept_at, claim_ok}
 use Rattle.theory.proofs.Eval.{eval-at}
 use Rattle.witness.specs.Rows.{row_of, Readable}

@@ -1,5 +1,5 @@
 -- The region that a call builds, as a box on a grid, and what is refused.
-use Rattle.std.specs.Prelude.{◌≡◌, ℕ, ◌≤◌, Bool, ◌&&◌, List, Ok, Result, nat_le}
+use Rattle.std.specs.Prelude.{◌≡◌, ℕ, ◌&&◌, List, Ok, Result, nat_le}
 use Rattle.chain.specs.declared.refusal.Refusal.{Refusal}
 use Rattle.chain.specs.declared.refusal.Refusal.TheVariants.{BadGrid, BadField}
 use Rattle.theory.specs.Words.{passes}

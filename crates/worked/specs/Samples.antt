@@ -1,5 +1,5 @@
 -- Three small chains, each with the unit 1 and the start 0.
-use Rattle.std.specs.Prelude.{ℕ, cond, List, [], ◌∷◌, ℤ, pos, negsuc, ◌==◌}
+use Rattle.std.specs.Prelude.{ℕ, cond, [], ◌∷◌, ℤ, pos, negsuc, ◌==◌}
 use Rattle.chain.specs.Chains.{Meaning, Row, Edge, looping}
 use Rattle.chain.specs.Filled.{padded, no_edge}
 use Rattle.chain.specs.declared.record.EdgeRecord.{EdgeRecord}

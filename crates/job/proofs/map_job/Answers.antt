@@ -1,7 +1,5 @@
-use Rattle.std.proofs.Common.{◌≡◌, vec_items, sym, ap, ◌∙◌}
+use Rattle.std.proofs.Common.{vec_items}
 use Rattle.std.proofs.lemmas.Result.{IfOk-weaker}
-use Rattle.chain_format.specs.Format.{chain_in}
-use Rattle.job.specs.Promise.{Mapped}
 use Rattle.job.proofs.Jobs.{run_job}
 use Rattle.job.proofs.map_job.Goals as goal
 

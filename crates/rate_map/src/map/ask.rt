@@ -1,6 +1,6 @@
 // Questions: what a map tells of its boxes. They change nothing.
 ghost use Rattle.std.specs.Prelude.{◌≡◌, ℕ, ◌+◌, ◌-◌, ◌*◌, ◌^◌, ◌<◌, ◌≤◌, length, slice_index};
-ghost use Rattle.theory.specs.Maps.{MapValue, volume as volumeOf, volumes as volumesOf, counted, no_volumes};
+ghost use Rattle.theory.specs.Maps.{MapValue, volume as volume_of, volumes as volumes_of, counted, no_volumes};
 ghost use Rattle.theory.specs.Witness.{at};
 ghost use Rattle.rate_map.specs.Values.{open_value, closed_value, used};
 ghost use Rattle.rate_map.specs.Calls.{FoundIn};
@@ -26,7 +26,7 @@ fn width(b: &BoxRecord, r: usize) -> u64
 fn volume(rates: u32, b: &BoxRecord) -> u64
     requires rates { rates ≤ 4 }
     requires few { (k : ℕ) → slice_index b.now.high k ≤ 1000 }
-    ensures product { result ≡ volumeOf rates b.now }
+    ensures product { result ≡ volume_of rates b.now }
     ensures few { result ≤ 2 ^ 40 }
 {
     match rates {
@@ -69,7 +69,7 @@ fn count_volume(t: Volumes, verdict: Verdict, n: u64) -> Volumes
 // The volumes of the boxes in use, by verdict.
 fn measure(rates: u32, table: &Table) -> Volumes
     requires { rates ≤ 4 }
-    ensures { result ≡ volumesOf rates (used table.now) no_volumes }
+    ensures { result ≡ volumes_of rates (used table.now) no_volumes }
 {
     let boxes = table.boxes();
     let mut total = Volumes {
@@ -119,7 +119,7 @@ impl<C: Chain> OpenMap<C> {
 
     // The volumes of the boxes, by verdict.
     pub fn measure(&self) -> Volumes
-        ensures { result ≡ volumesOf (C.meaning self.now.chain).rates (open_value self.now).boxes no_volumes }
+        ensures { result ≡ volumes_of (C.meaning self.now.chain).rates (open_value self.now).boxes no_volumes }
     {
         measure(self.chain.rates(), &self.table)
     }
@@ -142,7 +142,7 @@ impl<C: Chain> ClosedMap<C> {
 
     // The volumes of the boxes, by verdict.
     pub fn measure(&self) -> Volumes
-        ensures { result ≡ volumesOf (C.meaning self.now.chain).rates (closed_value self.now).boxes no_volumes }
+        ensures { result ≡ volumes_of (C.meaning self.now.chain).rates (closed_value self.now).boxes no_volumes }
     {
         measure(self.chain.rates(), &self.table)
     }

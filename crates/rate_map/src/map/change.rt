@@ -1,6 +1,6 @@
 // Lay out, split and witnesses: the calls that change an open map.
 ghost use Rattle.std.specs.Prelude.{◌≡◌, ℕ, ◌+◌, ◌*◌, ◌<◌, ◌≤◌, true, ◌&&◌, length, is_ok, Ok, Err, Decides, MatchResult, nat_le, nat_lt};
-ghost use Rattle.theory.specs.Maps.{unused, laid_out, split as splitValue, for_box, keeping, box_at, sides_of};
+ghost use Rattle.theory.specs.Maps.{unused, laid_out, split as split_value, for_box, keeping, box_at, sides_of};
 ghost use Rattle.theory.specs.Witness.{SafeWitness, UnsafeWitness};
 ghost use Rattle.rate_map.specs.Exactly.{OpenBox};
 ghost use Rattle.rate_map.specs.Values.{open_value, used};
@@ -65,7 +65,7 @@ impl<C: Chain> OpenMap<C> {
 
     // Cuts an open box at a place of a rate. Refused with 9, 10, 11 or 12, tried in this order.
     pub fn split(&mut self, number: u32, rate: u32, place: u32) -> Result<(), Refusal>
-        ensures change { Changes (splitValue (C.meaning self.old.chain) (open_value self.old) number rate place) (open_value self.old) result (open_value self.new) }
+        ensures change { Changes (split_value (C.meaning self.old.chain) (open_value self.old) number rate place) (open_value self.old) result (open_value self.new) }
         ensures chain { self.new.chain ≡ self.old.chain }
     {
         let i = number as usize;

@@ -1,7 +1,6 @@
-use Rattle.std.proofs.Common.{◌≡◌, ℕ, ◌+◌, ◌*◌, ◌≤◌, true, false, length, sym, refl, ap, ◌∙◌, arith}
+use Rattle.std.proofs.Common.{◌∙◌}
 use Rattle.std.proofs.lemmas.Bool.{eq-eqb, ne_eqb}
-use Rattle.std.proofs.lemmas.Result.{err_from_is_err_and, MatchResult-weaker}
-use Rattle.chain_format.specs.Reader.{got}
+use Rattle.std.proofs.lemmas.Result.{err_from_is_err_and}
 use Rattle.chain_format.proofs.Steps.{then_got, then_cut, checked_yes, checked_no, done-got}
 use Rattle.chain_file.proofs.check.check_from_rows.Goals as goal
 

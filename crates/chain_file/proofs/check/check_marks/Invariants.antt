@@ -1,4 +1,4 @@
-use Rattle.std.proofs.Common.{ℕ, ◌+◌}
+use Rattle.std.proofs.Common.{◌+◌}
 use Rattle.chain.specs.declared.refusal.Refusal.TheVariants.{BadMark}
 use Rattle.chain_format.specs.Reader.{part, field, within, stay}
 use Rattle.chain_format.proofs.Loops.{Reached}

@@ -1,4 +1,4 @@
-use Rattle.std.proofs.Common.{ℕ, ◌+◌, ◌*◌, ◌≤◌}
+use Rattle.std.proofs.Common.{◌+◌, ◌*◌, ◌≤◌}
 use Rattle.chain.specs.declared.refusal.Refusal.TheVariants.{BadRow}
 use Rattle.chain_format.specs.Reader.{part}
 use Rattle.chain_format.specs.Format.{version1, row}

@@ -1,6 +1,5 @@
-use Rattle.std.proofs.Common.{◌≡◌, ℕ, ◌+◌, sym, refl, ap, ◌∙◌, add_assoc, arith}
+use Rattle.std.proofs.Common.{◌≡◌, ◌+◌, refl, ◌∙◌, arith}
 use Rattle.std.proofs.lemmas.Result.{err_from_is_err_and}
-use Rattle.chain_format.specs.Reader.{got}
 use Rattle.chain_format.proofs.Steps.{then_got, then_cut, mapped-got, mapped-cut}
 use Rattle.chain_file.proofs.check.read_numbers.Goals as goal
 

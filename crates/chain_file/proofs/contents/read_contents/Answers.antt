@@ -1,6 +1,5 @@
-use Rattle.std.proofs.Common.{◌≡◌, ℕ, ◌+◌, sym, refl, ap, ◌∙◌, arith}
+use Rattle.std.proofs.Common.{refl, ◌∙◌, arith}
 use Rattle.std.proofs.lemmas.Result.{err_from_is_err_and}
-use Rattle.chain_format.specs.Reader.{got}
 use Rattle.chain_format.proofs.Steps.{repeat_nothing, repeat_next, repeat_stop, repeat_stop_next}
 use Rattle.chain_file.proofs.contents.read_contents.Goals as goal
 

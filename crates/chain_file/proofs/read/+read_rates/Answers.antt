@@ -1,5 +1,4 @@
-use Rattle.std.proofs.Common.{◌≡◌, ℕ, suc, ◌+◌, ◌<◌, ◌∷◌, length, sym, refl, ap, ◌∙◌, arith, rules}
-use Rattle.chain_format.specs.Reader.{got}
+use Rattle.std.proofs.Common.{◌<◌, length, refl, arith}
 use Rattle.std.proofs.lemmas.Result.{err_from_is_err_and, MatchResult-weaker}
 use Rattle.chain_format.proofs.Steps.{repeat_empty, repeat_next, repeat_stop, repeat_stop_next}
 use Rattle.chain_file.proofs.Fills.{rest_length, put_first}

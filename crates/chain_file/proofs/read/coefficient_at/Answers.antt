@@ -1,8 +1,8 @@
-use Rattle.std.proofs.Common.{◌≡◌, ℕ, suc, ◌+◌, ◌-◌, ◌<◌, ◌≤◌, true, false, List, pos, negsuc, ◌-ℤ◌, sym, refl, ap, ◌∙◌, arith, w16, w32, to_z, of_z}
+use Rattle.std.proofs.Common.{◌≡◌, ℕ, suc, ◌+◌, ◌-◌, ◌<◌, ◌≤◌, true, List, pos, negsuc, ◌-ℤ◌, sym, ap, ◌∙◌, arith, w16, w32, to_z, of_z}
 use borrow.Author.Differences.{ints}
 use Rattle.std.proofs.lemmas.Bool.{le-ltb}
 use Rattle.std.proofs.lemmas.Bool.Decides.{nat_tests}
-use Rattle.chain_format.specs.Reader.{Part, part, value_at, got}
+use Rattle.chain_format.specs.Reader.{part, value_at, got}
 use Rattle.chain.specs.declared.refusal.Refusal.TheVariants.{BadRow}
 use Rattle.chain_format.specs.Format.{small, coefficient}
 use Rattle.chain_format.proofs.Steps.{field-got, field_wrong, field_cut, mapped-got, mapped-cut}

@@ -1,6 +1,6 @@
-use Rattle.std.proofs.Common.{◌≡◌, ℕ, ◌+◌, true, false, sym, refl, ap, ◌∙◌, arith}
+use Rattle.std.proofs.Common.{◌≡◌, ◌+◌, true, false, sym, ap, ◌∙◌, arith}
 use Rattle.std.proofs.lemmas.Bool.Decides.{nat_tests}
-use Rattle.chain_format.specs.Reader.{Part, part, from, refused, got}
+use Rattle.chain_format.specs.Reader.{part, from, refused, got}
 use Rattle.chain_file.specs.Faults.{fault_of}
 use Rattle.chain_format.proofs.Steps.{field-got, field_wrong, field_cut}
 use Rattle.chain_file.proofs.read.field_at.Goals as goal

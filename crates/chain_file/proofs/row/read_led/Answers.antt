@@ -1,7 +1,6 @@
-use Rattle.std.proofs.Common.{◌≡◌, ℕ, ◌+◌, ◌*◌, ◌≤◌, map, length, sym, refl, ap, ◌∙◌, arith}
+use Rattle.std.proofs.Common.{◌≡◌, ◌+◌, ◌*◌, length, sym, refl, ap, ◌∙◌, arith}
 use Rattle.std.proofs.lemmas.List.{length-map}
 use Rattle.std.proofs.lemmas.Result.{err_from_is_err_and}
-use Rattle.chain_format.specs.Reader.{got}
 use Rattle.chain.specs.Filled.{no_edge, filled_edge}
 use Rattle.chain_format.proofs.Steps.{then_got, then_cut}
 use Rattle.chain_file.proofs.Fills.{part_length, pad, room}

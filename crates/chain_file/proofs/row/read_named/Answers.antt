@@ -1,6 +1,5 @@
-use Rattle.std.proofs.Common.{◌≡◌, ℕ, ◌+◌, ◌≤◌, length, sym, refl, ap, ◌∙◌, arith}
+use Rattle.std.proofs.Common.{◌≡◌, ℕ, length, sym, ◌∙◌, arith}
 use Rattle.std.proofs.lemmas.Result.{err_from_is_err_and}
-use Rattle.chain_format.specs.Reader.{got}
 use Rattle.chain_format.proofs.Steps.{then_got, then_cut}
 use Rattle.chain_file.proofs.Fills.{part_length, pad}
 use Rattle.chain_file.proofs.row.read_named.Goals as goal

@@ -1,6 +1,5 @@
-use Rattle.std.proofs.Common.{◌≡◌, ℕ, ◌+◌, ◌^◌, ◌≤◌, length, sym, refl, ap, ◌∙◌, arith}
+use Rattle.std.proofs.Common.{◌≡◌, ◌^◌, length, refl, ap, ◌∙◌, arith}
 use Rattle.std.proofs.lemmas.Result.{err_from_is_err_and}
-use Rattle.chain_format.specs.Reader.{got}
 use Rattle.chain.specs.Chains.{Row}
 use Rattle.chain_format.proofs.Steps.{then_got, then_cut, mapped-got, mapped-cut}
 use Rattle.chain_file.proofs.row.read_row.Goals as goal

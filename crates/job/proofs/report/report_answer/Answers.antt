@@ -1,4 +1,4 @@
-use Rattle.std.proofs.Common.{◌≡◌, cond, ◌++◌, is_ok, vec_items, sym, ap, ◌∙◌}
+use Rattle.std.proofs.Common.{cond, ◌++◌, is_ok, vec_items, ap, ◌∙◌}
 use Rattle.job.proofs.Texts.{written_front}
 use Rattle.job.proofs.report.report_answer.Goals as goal
 

@@ -1,4 +1,4 @@
-use Rattle.std.proofs.Common.{◌≡◌, cond, ◌++◌, vec_items, sym, refl, ap, ◌∙◌, arith}
+use Rattle.std.proofs.Common.{◌++◌, vec_items, ap, ◌∙◌, arith}
 use Rattle.sheet.specs.Sheet.{answer_line}
 use Rattle.script.proofs.Lines.{count_said}
 use Rattle.job.proofs.Texts.{reported_none, reported_bad, reported_call, reported_end, reported_short, reported_all, reported_at}

@@ -1,4 +1,4 @@
-use Rattle.std.proofs.Common.{◌≡◌, ℕ, ◌-◌, cond, ◌++◌, length, take, is_ok, vec_items, sym, ap, ◌∙◌, arith}
+use Rattle.std.proofs.Common.{◌≡◌, ℕ, ◌-◌, cond, ◌++◌, length, take, is_ok, vec_items, ap, ◌∙◌, arith}
 use Rattle.std.proofs.lemmas.List.{take_at}
 use Rattle.job.proofs.Texts.{written_front}
 use Rattle.job.proofs.report.report_sheet.Goals as goal

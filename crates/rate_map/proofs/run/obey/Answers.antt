@@ -1,9 +1,8 @@
-use Rattle.std.proofs.Common.{◌≡◌, sym, refl, ap, ◌∙◌}
+use Rattle.std.proofs.Common.{sym, refl, ap, ◌∙◌}
 use Rattle.theory.specs.Maps.{laid_out, split, safe_call, unsafe_call}
 use Rattle.theory.specs.Runs.{answer, after}
 use Rattle.rate_map.specs.Values.{open_value}
 use Rattle.rate_map.specs.Told.{command}
-use Rattle.rate_map.specs.Calls.{safe_on, unsafe_on}
 use Rattle.rate_map.proofs.Obeyed.{obeyed, safe_on_lem, unsafe_on_lem}
 use Rattle.rate_map.proofs.run.obey.Goals as goal
 

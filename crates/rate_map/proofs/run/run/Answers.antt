@@ -1,6 +1,5 @@
-use Rattle.std.proofs.Common.{◌≡◌, ℕ, ◌<◌, [], map, length, get_or, take, vec_items, sym, refl, ap, ◌∙◌, subst, arith, rules}
+use Rattle.std.proofs.Common.{◌≡◌, [], map, get_or, take, vec_items, sym, refl, ap, ◌∙◌, subst}
 use Rattle.std.proofs.lemmas.List.{take_all}
-use Rattle.chain.specs.Chains.{Meaning}
 use Rattle.theory.specs.Maps.{MapValue, new_map}
 use Rattle.theory.specs.Runs.{run_from, answers_from, after, answer}
 use Rattle.theory.proofs.Runs.{runs_are_sound}

@@ -1,4 +1,4 @@
-use Rattle.std.proofs.Common.{◌≡◌, ◌<◌, ◌≤◌, false, ◌⊎◌, [], ◌∷◌, ◌++◌, length, get_or, vec_items, sym, refl, ap, ◌∙◌, inl, inr, ⊎_elim, arith, rules}
+use Rattle.std.proofs.Common.{◌≡◌, ◌<◌, false, ◌⊎◌, [], ◌∷◌, ◌++◌, get_or, vec_items, sym, ap, ◌∙◌, inl, inr, ⊎_elim, arith}
 use Rattle.std.proofs.lemmas.List.{append_assoc, append-nil}
 use Rattle.script.specs.Reading.{fit}
 use Rattle.script.proofs.Digits.{reached_none, stuck_digit, stuck_other, stuck_end, next_digit, next_space, read_end, reached_at}

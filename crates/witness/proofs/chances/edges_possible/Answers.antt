@@ -1,4 +1,4 @@
-use Rattle.std.proofs.Common.{◌≡◌, ℕ, ◌^◌, ◌<◌, Bool, true, false, get_or, take, ℤ, pos, sym, refl, ap, ◌∙◌, arith, w64, to_z, of_z}
+use Rattle.std.proofs.Common.{◌≡◌, ◌^◌, ◌<◌, Bool, true, false, take, ℤ, pos, sym, ap, ◌∙◌, arith, w64, to_z, of_z}
 use lib.Signed.{le_z, mag}
 use Rattle.std.proofs.lemmas.Int.{to_z-of_z}
 use Rattle.chain.specs.declared.record.EdgeRecord.{EdgeRecord}

@@ -1,4 +1,4 @@
-use Rattle.std.proofs.Common.{◌≡◌, ℕ, ◌<◌, Bool, sym, refl, ap, ◌∙◌, arith}
+use Rattle.std.proofs.Common.{◌≡◌, ℕ, Bool, sym, refl, ap, ◌∙◌, arith}
 use Rattle.theory.specs.Words.{lowest}
 use Rattle.theory.specs.Answers.{chance_ok}
 use Rattle.theory.proofs.Lowest.{lowest-found, lowest_more}

@@ -1,4 +1,4 @@
-use Rattle.std.proofs.Common.{◌≡◌, ℕ, ◌^◌, ◌<◌, Bool, sym, refl, ap, ◌∙◌, arith}
+use Rattle.std.proofs.Common.{◌≡◌, ℕ, ◌^◌, Bool, sym, refl, ap, ◌∙◌, arith}
 use Rattle.theory.specs.Words.{lowest}
 use Rattle.theory.specs.Values.{named}
 use Rattle.theory.specs.Answers.{possible_at}

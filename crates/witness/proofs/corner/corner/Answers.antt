@@ -1,4 +1,4 @@
-use Rattle.std.proofs.Common.{◌≡◌, ℕ, zero, suc, ◌+◌, ◌/◌, ◌%◌, ◌^◌, ◌<◌, ◌≤◌, Bool, cond, eqb, List, [], ◌∷◌, get_or, take, sym, refl, ap, ◌∙◌, zero-le, arith}
+use Rattle.std.proofs.Common.{◌≡◌, ℕ, zero, suc, ◌<◌, ◌≤◌, Bool, cond, eqb, [], ◌∷◌, get_or, sym, ap, ◌∙◌, zero-le, arith}
 use Rattle.std.proofs.lemmas.List.{get_or-take}
 use Rattle.chain.specs.declared.record.RowRecord.{RowRecord}
 use Rattle.theory.specs.Boxes.{corner_of}

@@ -1,4 +1,4 @@
-use Rattle.std.proofs.Common.{◌≡◌, length, sym, ◌∙◌, arith}
+use Rattle.std.proofs.Common.{◌≡◌, length, sym, ◌∙◌}
 use Rattle.witness.proofs.Judged.{past_numbers}
 use Rattle.witness.proofs.judge.answer_safe.Goals as goal
 

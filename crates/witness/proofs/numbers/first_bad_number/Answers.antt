@@ -1,4 +1,4 @@
-use Rattle.std.proofs.Common.{◌≡◌, ℕ, ◌<◌, Bool, true, false, not, ◌&&◌, ◌||◌, eqb, leb, sym, ◌∙◌, arith}
+use Rattle.std.proofs.Common.{◌≡◌, ℕ, Bool, not, ◌&&◌, ◌||◌, eqb, leb, sym, ◌∙◌, arith}
 use Rattle.theory.specs.Answers.{numbers_ok}
 use Rattle.theory.proofs.Lowest.{lowest-found, lowest_more}
 use Rattle.witness.proofs.numbers.first_bad_number.Goals as goal

@@ -1,4 +1,4 @@
-use Rattle.std.proofs.Common.{◌≡◌, ℕ, ◌*◌, ◌^◌, ◌≤◌, sym, ap, ◌∙◌, mul_comm, mul-le-mul, one-mul, pow-suc, mul-one, arith, Fits-lit}
+use Rattle.std.proofs.Common.{◌≡◌, ℕ, ◌*◌, ◌^◌, ◌≤◌, ◌∙◌, mul_comm, mul-le-mul, one-mul, pow-suc, mul-one, arith}
 use native.Mathlib.Nat.{pow-zero}
 use Rattle.witness.proofs.rows.scale_of.Goals as goal
 use Rattle.witness.proofs.rows.scale_of.Goals.{Start}

@@ -1,5 +1,4 @@
-use Rattle.std.proofs.Common.{◌≡◌, true, sym, ap, ◌∙◌}
-use Rattle.chain.specs.Chains.{bad}
+use Rattle.std.proofs.Common.{sym, ap, ◌∙◌}
 use Rattle.witness.specs.Regions.{box_of}
 use Rattle.witness.proofs.Tests.{claim_is}
 use Rattle.witness.proofs.rows.state_holds.Goals as goal

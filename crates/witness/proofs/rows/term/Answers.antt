@@ -1,4 +1,4 @@
-use Rattle.std.proofs.Common.{◌≡◌, ◌*◌, ◌^◌, ◌<◌, ◌≤◌, ℤ, nat_abs, sym, subst, arith, w64}
+use Rattle.std.proofs.Common.{◌^◌, ◌≤◌, ℤ, nat_abs, sym, subst, arith, w64}
 use mir.Syntax.{w128}
 use Rattle.std.proofs.lemmas.Int.{to_z-of_z}
 use Rattle.theory.specs.Words.{◌·◌}

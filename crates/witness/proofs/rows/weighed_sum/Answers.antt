@@ -1,4 +1,4 @@
-use Rattle.std.proofs.Common.{◌≡◌, ℕ, ◌+◌, ◌*◌, ◌^◌, ◌<◌, ◌≤◌, length, get_or, take, ℤ, ◌+ℤ◌, nat_abs, sym, ap, ◌∙◌, subst, arith, to_z, of_z, rules}
+use Rattle.std.proofs.Common.{◌≡◌, ◌+◌, ◌*◌, ◌<◌, ◌≤◌, take, ℤ, ◌+ℤ◌, nat_abs, sym, ap, ◌∙◌, subst, arith}
 use mir.Syntax.{w128}
 use Rattle.chain.specs.declared.record.EdgeRecord.{EdgeRecord}
 use Rattle.theory.specs.Words.{◌·◌, sumℤ}

@@ -1,4 +1,4 @@
-use Rattle.std.proofs.Common.{◌≡◌, ◌*◌, ◌^◌, ◌≤◌, take, nat_abs}
+use Rattle.std.proofs.Common.{◌≡◌, ◌*◌, ◌≤◌, take, nat_abs}
 use Rattle.theory.specs.Words.{◌·◌, sumℤ}
 use Rattle.witness.proofs.Records.{worth}
 use Rattle.witness.proofs.rows.weighed_sum.Given as goal

@@ -1,4 +1,4 @@
-use Rattle.std.proofs.Common.{◌≡◌, sym, ap, ◌∙◌, subst}
+use Rattle.std.proofs.Common.{sym, ap, ◌∙◌, subst}
 use Rattle.chain.specs.declared.record.RowRecord.{RowRecord}
 use Rattle.witness.specs.Rows.{row_of, Readable}
 use Rattle.witness.proofs.Filled.{row_back, readable}

@@ -1,7 +1,7 @@
 use Rattle.std.proofs.Common.{◌≡◌, ◌-◌, ◌^◌, ◌≤◌, length, ℤ, nat_abs, sym, ◌∙◌, subst, w64, rules}
 use Rattle.std.proofs.lemmas.Int.{to_z-of_z}
 use Rattle.witness.specs.Rows.{entry, Small, room}
-use Rattle.witness.proofs.Tables.{Halves, Rest, halves, rest_of, low_small, high_small, small_more, room_most, kept_small, only_rate}
+use Rattle.witness.proofs.Tables.{Rest, halves, rest_of, low_small, high_small, small_more, room_most, kept_small, only_rate}
 use Rattle.witness.proofs.value.+value.Goals as goal
 use Rattle.witness.proofs.value.+value.Goals.{After-set_last}
 

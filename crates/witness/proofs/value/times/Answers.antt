@@ -1,4 +1,4 @@
-use Rattle.std.proofs.Common.{◌*◌, ◌^◌, ◌<◌, ◌≤◌, ℤ, nat_abs, sym, subst, arith, w64}
+use Rattle.std.proofs.Common.{◌^◌, ◌≤◌, ℤ, nat_abs, sym, subst, arith, w64}
 use Rattle.theory.specs.Words.{◌·◌}
 use Rattle.witness.proofs.Signs.{times_small, product_fits, product_is}
 use Rattle.witness.proofs.value.times.Goals as goal

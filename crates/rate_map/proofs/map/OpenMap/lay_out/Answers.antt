@@ -1,4 +1,4 @@
-use Rattle.std.proofs.Common.{◌≡◌, sym, refl, ap}
+use Rattle.std.proofs.Common.{sym, refl, ap}
 use Rattle.theory.specs.Runs.{or_kept}
 use Rattle.rate_map.specs.Values.{open_value}
 use Rattle.rate_map.specs.Calls.{taken}

@@ -1,6 +1,6 @@
-use Rattle.std.proofs.Common.{◌≡◌, ◌+◌, ◌*◌, ◌≤◌, get_or, drop, sym, refl, ap, ◌∙◌, arith}
+use Rattle.std.proofs.Common.{◌+◌, get_or, drop, sym, ap, ◌∙◌, arith}
 use Rattle.std.proofs.lemmas.List.{at_drop_more, at_drop_all}
-use Rattle.theory.specs.Maps.{no_box, volumes, volume, counted, no_volumes}
+use Rattle.theory.specs.Maps.{no_box, volumes, counted, no_volumes}
 use Rattle.rate_map.proofs.map.ask.measure.Goals as goal
 
 pub loop-b-preserved : goal.loop-b-preserved

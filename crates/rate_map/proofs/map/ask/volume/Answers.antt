@@ -1,5 +1,4 @@
-use Rattle.std.proofs.Common.{◌≡◌, ℕ, ◌*◌, ◌^◌, ◌≤◌, sym, refl, ap, ◌∙◌, mul-le-mul, one-mul, arith}
-use Rattle.theory.specs.Maps.{volume}
+use Rattle.std.proofs.Common.{◌≡◌, ℕ, ◌*◌, ◌≤◌, ◌∙◌, mul-le-mul, one-mul, arith}
 use Rattle.rate_map.proofs.map.ask.volume.Goals as goal
 
 three : (x y z : ℕ) → x ≤ 1000 → y ≤ 1000 → z ≤ 1000 → x * y * z ≤ 1000000000

@@ -1,4 +1,4 @@
-use Rattle.std.proofs.Common.{◌<◌, get_or, set, sym, subst, arith}
+use Rattle.std.proofs.Common.{get_or, set, sym, subst, arith}
 use Rattle.std.proofs.lemmas.List.{length-take-le, length-set}
 use Rattle.theory.specs.Maps.{no_box, low_half, high_half}
 use Rattle.theory.specs.declared.record.BoxRecord.{BoxRecord}

@@ -1,4 +1,4 @@
-use Rattle.std.proofs.Common.{◌≤◌, replicate, refl, zero-le, arith, lit≤}
+use Rattle.std.proofs.Common.{◌≤◌, replicate, refl, zero-le, lit≤}
 use Rattle.theory.specs.Maps.{no_box}
 use Rattle.theory.specs.declared.record.BoxRecord.{BoxRecord}
 use Rattle.theory.specs.declared.verdict.Verdict.TheVariants.{Open}

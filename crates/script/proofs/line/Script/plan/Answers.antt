@@ -1,4 +1,4 @@
-use Rattle.std.proofs.Common.{◌≡◌, [], map, sym, ap, ◌∙◌, arith}
+use Rattle.std.proofs.Common.{[], map, ap, arith}
 use Rattle.rate_map.specs.Told.{command}
 use Rattle.script.proofs.Lines.{count_said}
 use Rattle.script.proofs.Plans.{planned_none, planned_step, planned_stop, planned_all, planned_as}

@@ -1,7 +1,7 @@
-use Rattle.std.proofs.Common.{◌≡◌, ◌+◌, ◌-◌, ◌<◌, ◌∷◌, length, take, drop, sym, refl, ap, ◌∙◌, arith, rules}
+use Rattle.std.proofs.Common.{◌≡◌, ◌+◌, ◌-◌, ◌<◌, ◌∷◌, length, take, drop, sym, refl, ap, ◌∙◌, arith}
 use Rattle.std.proofs.lemmas.List.{length-drop, nil_from_length}
 use Rattle.script.specs.Reading.{lines_of}
-use Rattle.script.proofs.Lines.{Read, lines_next, read_none, read_more, read_all, read_as}
+use Rattle.script.proofs.Lines.{lines_next, read_none, read_more, read_all, read_as}
 use Rattle.script.proofs.Grammar.{reads_the_grammar, said_as}
 use Rattle.script.proofs.line.Script.read.Goals as goal
 

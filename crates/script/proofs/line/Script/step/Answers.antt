@@ -1,4 +1,4 @@
-use Rattle.std.proofs.Common.{◌≡◌, ◌<◌, length, vec_items, sym, ap, ◌∙◌, arith}
+use Rattle.std.proofs.Common.{◌<◌, length, vec_items, sym, ap, ◌∙◌, arith}
 use Rattle.script.specs.Values.{said_in}
 use Rattle.script.proofs.Lines.{said_at, said_past}
 use Rattle.script.proofs.line.Script.step.Goals as goal

@@ -1,7 +1,5 @@
-use Rattle.std.proofs.Common.{◌≡◌, ℕ, ◌<◌, true, ◌&&◌, ltb, leb, sym, arith, rules}
+use Rattle.std.proofs.Common.{◌≡◌, ℕ, ◌<◌, true, sym, arith, rules}
 use Rattle.std.proofs.lemmas.Bool.Decides.{nat_tests}
-use Rattle.theory.specs.Words.{lowest}
-use Rattle.theory.specs.Witness.{at}
 use Rattle.theory.proofs.Lowest.{lowest_none}
 use Rattle.theory.specs.Maps.{side_ok}
 use Rattle.witness.proofs.region.Region.new.Goals as goal
