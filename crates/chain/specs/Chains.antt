@@ -1,6 +1,6 @@
 -- What a chain is, and the rules and limits that every chain keeps.
 use Rattle.std.specs.Prelude.{◌≡◌, ℕ, ◌+◌, ◌^◌, ◌<◌, ◌≤◌, Bool, cond, List, [], ◌∷◌, map, length, ℤ, pos, negsuc, ◌+ℤ◌, ◌≤ℤ◌, ◌==◌, slice_index_or}
-use Rattle.std.specs.List.{AllByRecursion as All}
+use Rattle.std.specs.List.{AllByRecursion}
 
 -- an edge: the state that it leads to, and the coefficients of its chance. Number i belongs to the product of those rates of the row whose bit is set in i, and bit 0 stands for the row's first rate
 pub record Edge : Type 0 where
@@ -52,7 +52,7 @@ Limited z = (negsuc 7999 ≤ℤ z) × (z ≤ℤ pos 8000)
 
 pub record LawfulEdge (size : ℕ) (e : Edge) : Type 0 where
   pub many : length e.coefficients ≡ size
-  pub limits : All Limited e.coefficients
+  pub limits : AllByRecursion Limited e.coefficients
 
 pub record LawfulRow (states rates unit : ℕ) (r : Row) : Type 0 where
   pub rates_few : length r.rates ≤ 3
@@ -60,7 +60,7 @@ pub record LawfulRow (states rates unit : ℕ) (r : Row) : Type 0 where
   pub edges_some : 1 ≤ length r.edges
   pub edges_few : length r.edges ≤ 8
   pub edges_rise : Ascends 0 states (map (λ e. e.successor) r.edges)
-  pub edges_lawful : All (LawfulEdge (2 ^ length r.rates)) r.edges
+  pub edges_lawful : AllByRecursion (LawfulEdge (2 ^ length r.rates)) r.edges
   pub sums : (i : ℕ) → i < 2 ^ length r.rates → total i r.edges ≡ due unit i
 
 pub record Lawful (c : Meaning) : Type 0 where

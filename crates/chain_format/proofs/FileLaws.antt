@@ -2,7 +2,7 @@
 use Rattle.std.proofs.Common.{◌≡◌, ℕ, zero, suc, ◌+◌, ◌*◌, ◌^◌, ◌<◌, ◌≤◌, List, [], ◌∷◌, length, drop, ℤ, pos, negsuc, Decides, sym, refl, ap, ◌∙◌, ⊎_elim, arith, length-append}
 use Rattle.std.proofs.lemmas.Bool.{eqb-true, eq-eqb, and_parts, and_from, cases_lt}
 use Rattle.std.proofs.lemmas.List.{length-drop, drop_more, drop_all}
-use Rattle.std.specs.List.{AllByRecursion as All}
+use Rattle.std.specs.List.{AllByRecursion}
 use Rattle.chain_format.specs.Reader.{Part, value_at, bytes_of, spell, stay, each, from, within, is, field}
 use Rattle.chain.specs.Chains.{Edge, Row, LawfulRow, total, due, most_states}
 use Rattle.chain_format.specs.Format.{Version, first, Entry, next_entry, entry, contents, Numbers, numbers, marks, eqℤ, balanced, row, entry_bytes, contents_bytes, numbers_bytes, marks_bytes, row_bytes}
@@ -70,7 +70,7 @@ module _ (v : Version) (room : Roomy v) (p : Part) (b : Bytes p.bytes) (offsets 
   rows_from s rs = spell (each (row_bytes v)) (λ s _. s + 1) s rs
 
   pub each_rows : (rs : List Row) (s at off : ℕ) → start + off ≡ at → offsets + 4 * (s + length rs) ≤ p.end
-      → Each (each (row_bytes v)) (λ s _. s + 1) Placed s rs at → Spelt p (offsets + 4 * s) (offsets_from off rs) × All (LawfulRow n m unit) rs
+      → Each (each (row_bytes v)) (λ s _. s + 1) Placed s rs at → Spelt p (offsets + 4 * s) (offsets_from off rs) × AllByRecursion (LawfulRow n m unit) rs
   unfolding spell
   each_rows [] s at off e l h = (omega arith, tt)
   each_rows (r ∷ rs) s at off e l h =
@@ -82,7 +82,7 @@ module _ (v : Version) (room : Roomy v) (p : Part) (b : Bytes p.bytes) (offsets 
       )
 
   pub rows-each : (rs : List Row) (s at off : ℕ) → start + off ≡ at → off + length (rows_from s rs) < 256 ^ 4
-      → Spelt p (offsets + 4 * s) (offsets_from off rs) → All (LawfulRow n m unit) rs → Each (each (row_bytes v)) (λ s _. s + 1) Placed s rs at
+      → Spelt p (offsets + 4 * s) (offsets_from off rs) → AllByRecursion (LawfulRow n m unit) rs → Each (each (row_bytes v)) (λ s _. s + 1) Placed s rs at
   unfolding spell
   rows-each [] s at off e l h a = tt
   rows-each (r ∷ rs) s at off e l h a =
@@ -157,15 +157,15 @@ numbers_codec v room p b =
     })
     (λ k at h. ((h.states_some, h.states_few), ((h.rates_some, h.rates_few), ((h.unit_some, h.unit_few), (refl, (h.starts, omega arith))))))
 
-pub marks_codec : (p : Part) → Bytes p.bytes → (n : ℕ) → Codec p (marks p n) marks_bytes (λ ms _. (length ms ≡ n) × All (λ v. v ≤ 1) ms)
+pub marks_codec : (p : Part) → Bytes p.bytes → (n : ℕ) → Codec p (marks p n) marks_bytes (λ ms _. (length ms ≡ n) × AllByRecursion (λ v. v ≤ 1) ms)
 marks_codec p b n = like p (repeat_codec p stay (λ _. within_codec p b 1 0 1 (omega arith)) n 0)
     (λ ms at h. (h.0, to ms _ h.1)) (λ ms at h. (h.0, back ms _ h.1))
   where
-    to : (ms : List ℕ) (at : ℕ) → Each (each (bytes_of 1)) stay (λ _ v _. (0 ≤ v) × (v ≤ 1)) 0 ms at → All (λ v. v ≤ 1) ms
+    to : (ms : List ℕ) (at : ℕ) → Each (each (bytes_of 1)) stay (λ _ v _. (0 ≤ v) × (v ≤ 1)) 0 ms at → AllByRecursion (λ v. v ≤ 1) ms
     to [] at h = tt
     to (v ∷ ms) at h = (h.0.1, to ms _ h.1)
 
-    back : (ms : List ℕ) (at : ℕ) → All (λ v. v ≤ 1) ms → Each (each (bytes_of 1)) stay (λ _ v _. (0 ≤ v) × (v ≤ 1)) 0 ms at
+    back : (ms : List ℕ) (at : ℕ) → AllByRecursion (λ v. v ≤ 1) ms → Each (each (bytes_of 1)) stay (λ _ v _. (0 ≤ v) × (v ≤ 1)) 0 ms at
     back [] at h = tt
     back (v ∷ ms) at h = ((omega arith, h.0), back ms _ h.1)
 

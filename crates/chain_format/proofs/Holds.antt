@@ -1,6 +1,6 @@
 -- What stands where in the bytes of a chain's file.
 use Rattle.std.proofs.Common.{◌≡◌, ℕ, zero, suc, ◌+◌, ◌*◌, ◌<◌, ◌≤◌, List, [], ◌∷◌, ◌++◌, length, get_or, ap, ◌∙◌, add-zero, arith}
-use Rattle.std.specs.List.{AllByRecursion as All}
+use Rattle.std.specs.List.{AllByRecursion}
 use Rattle.chain.specs.Chains.{Row, Meaning, Lawful}
 use Rattle.chain.specs.declared.refusal.Refusal.TheVariants.{BadRow}
 use Rattle.chain_format.specs.Reader.{got, Part, part, value_at, bytes_of, spell, each}
@@ -12,7 +12,7 @@ use Rattle.chain_format.proofs.FileLaws.{Placed, rows-each}
 use Rattle.chain_format.proofs.OpenLaws.{version1_roomy, Laid, moved, opened-laid, length-numbers, length-marks, length_offsets, length_joined, rows_short}
 use Rattle.chain_format.proofs.TripLaws.{file_lawful, opens_got}
 
-mark_spelt : (p : Part) (ms : List ℕ) (at i : ℕ) → Spelt p at (marks_bytes ms) → All (λ v. v ≤ 1) ms → i < length ms → get_or p.bytes (at + i) 0 ≡ get_or ms i 0
+mark_spelt : (p : Part) (ms : List ℕ) (at i : ℕ) → Spelt p at (marks_bytes ms) → AllByRecursion (λ v. v ≤ 1) ms → i < length ms → get_or p.bytes (at + i) 0 ≡ get_or ms i 0
 unfolding spell bytes_of
 mark_spelt p [] at i h a l = absurd (omega arith)
 mark_spelt p (m ∷ ms) at zero h a l = rw add-zero (omega (arith, h.0, a.0))

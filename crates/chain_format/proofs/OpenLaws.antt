@@ -1,6 +1,6 @@
 -- What a file that opens spells, and that every file of a lawful chain opens.
 use Rattle.std.proofs.Common.{◌≡◌, ℕ, zero, suc, ◌+◌, ◌*◌, ◌/◌, ◌^◌, ◌<◌, ◌≤◌, Bool, true, cond, List, [], ◌∷◌, ◌++◌, map, length, get_or, sym, refl, ap, ◌∙◌, subst, ⊎_elim, add-zero, arith, length-append, pow_mono}
-use Rattle.std.specs.List.{flat_map, AllByRecursion as All}
+use Rattle.std.specs.List.{flat_map, AllByRecursion}
 use Rattle.std.proofs.lemmas.Bool.{eqb-true, eq-eqb, cases_lt}
 use Rattle.std.proofs.ByRecursion.{All-append, All-get_or}
 use Rattle.std.proofs.lemmas.List.{get_or_past, length-map}
@@ -20,9 +20,9 @@ version1_roomy = record { version_fits = omega arith; sections_fit = omega arith
 pub record LawfulFile (f : File) : Type 0 where
   pub numbers_lawful : LawfulNumbers f.numbers
   pub marks_many : length f.marks ≡ f.numbers.states
-  pub marks_lawful : All (λ v. v ≤ 1) f.marks
+  pub marks_lawful : AllByRecursion (λ v. v ≤ 1) f.marks
   pub rows_many : length f.rows ≡ f.numbers.states
-  pub rows_lawful : All (LawfulRow f.numbers.states f.numbers.rates f.numbers.unit) f.rows
+  pub rows_lawful : AllByRecursion (LawfulRow f.numbers.states f.numbers.rates f.numbers.unit) f.rows
 
 -- the same bytes in another part
 pub moved : (bs : List ℕ) (e : ℕ) (k : ℕ → Refusal) (end : ℕ) (fault : ℕ → Refusal) (xs : List ℕ) (at : ℕ)
@@ -157,7 +157,7 @@ bodies_read v room bs by l1 l2 l3 l4 f to e =
 
 -- ---- a file is short
 length_spell_le : {S A : Type 0} (w : S → A → List ℕ) (next : S → A → S) (c : ℕ) (P : A → Type 0) → ((s : S) (a : A) → P a → length (w s a) ≤ c)
-    → (s : S) (xs : List A) → All P xs → length (spell w next s xs) ≤ c * length xs
+    → (s : S) (xs : List A) → AllByRecursion P xs → length (spell w next s xs) ≤ c * length xs
 unfolding spell
 length_spell_le w next c P h s [] a = omega arith
 length_spell_le w next c P h s (x ∷ xs) a =
@@ -185,7 +185,7 @@ row_short v few n m unit r l =
     let c : length (row_bytes v r) ≡ (1 + length rates) + (1 + length edges) = simp (length-append, length-bytes_of) in
     omega (arith, l.edges_few, l.rates_few)
 
-pub rows_short : (v : Version) → v.wide ≤ 4 → (n m unit : ℕ) (rs : List Row) → All (LawfulRow n m unit) rs → length (rows_bytes v rs) ≤ 165 * length rs
+pub rows_short : (v : Version) → v.wide ≤ 4 → (n m unit : ℕ) (rs : List Row) → AllByRecursion (LawfulRow n m unit) rs → length (rows_bytes v rs) ≤ 165 * length rs
 rows_short v few n m unit rs a = length_spell_le (each (row_bytes v)) _ 165 (LawfulRow n m unit) (λ _ r h. row_short v few _ _ _ r h) 0 rs a
 
 -- ---- the four bodies are read as they are laid
@@ -233,30 +233,30 @@ bodies_spelt v room bs by l1 l2 l3 l4 f r =
 abbrev Byte : ℕ → Type 0
 Byte x = x < 256
 
-under_bytes_of : (w x : ℕ) → All Byte (bytes_of w x)
+under_bytes_of : (w x : ℕ) → AllByRecursion Byte (bytes_of w x)
 unfolding bytes_of
 under_bytes_of zero x = tt
 under_bytes_of (suc w) x = (omega arith, under_bytes_of w (x / 256))
 
-under_spell : {S A : Type 0} (w : S → A → List ℕ) (next : S → A → S) → ((s : S) (a : A) → All Byte (w s a)) → (s : S) (xs : List A) → All Byte (spell w next s xs)
+under_spell : {S A : Type 0} (w : S → A → List ℕ) (next : S → A → S) → ((s : S) (a : A) → AllByRecursion Byte (w s a)) → (s : S) (xs : List A) → AllByRecursion Byte (spell w next s xs)
 unfolding spell
 under_spell w next h s [] = tt
 under_spell w next h s (x ∷ xs) = All-append Byte (w s x) _ (h s x) (under_spell w next h (next s x) xs)
 
 -- a number, and then bytes
-under_on : (w x : ℕ) (xs : List ℕ) → All Byte xs → All Byte (bytes_of w x ++ xs)
+under_on : (w x : ℕ) (xs : List ℕ) → AllByRecursion Byte xs → AllByRecursion Byte (bytes_of w x ++ xs)
 under_on w x xs h = All-append Byte (bytes_of w x) xs (under_bytes_of w x) h
 
-under_edge : (v : Version) (e : Edge) → All Byte (edge_bytes v e)
+under_edge : (v : Version) (e : Edge) → AllByRecursion Byte (edge_bytes v e)
 under_edge v e = under_on v.wide _ _ (under_spell _ _ (λ _ z. under_bytes_of 2 _) 0 e.coefficients)
 
-under_row : (v : Version) (r : Row) → All Byte (row_bytes v r)
+under_row : (v : Version) (r : Row) → AllByRecursion Byte (row_bytes v r)
 under_row v r =
     All-append Byte (bytes_of 1 (length r.rates) ++ _) _
     (under_on 1 _ _ (under_spell _ _ (λ _ x. under_bytes_of 1 x) 0 r.rates))
     (under_on 1 _ _ (under_spell _ _ (λ _ e. under_edge v e) 0 r.edges))
 
-under_bodies : (v : Version) (f : File) → All (All Byte) (bodies_of v f)
+under_bodies : (v : Version) (f : File) → AllByRecursion (AllByRecursion Byte) (bodies_of v f)
 under_bodies v f = (
   under_on v.wide _ _ (under_on 1 _ _ (under_on 2 _ _ (under_bytes_of v.wide _))),
   (
@@ -268,11 +268,11 @@ under_bodies v f = (
   ),
 )
 
-under_joined : (bodies : List (List ℕ)) → All (All Byte) bodies → All Byte (flat_map (λ b. b) bodies)
+under_joined : (bodies : List (List ℕ)) → AllByRecursion (AllByRecursion Byte) bodies → AllByRecursion Byte (flat_map (λ b. b) bodies)
 under_joined [] h = tt
 under_joined (b ∷ bodies) h = All-append Byte b _ h.0 (under_joined bodies h.1)
 
-under_assembled : (v : Version) (bodies : List (List ℕ)) → All (All Byte) bodies → All Byte (assembled v bodies)
+under_assembled : (v : Version) (bodies : List (List ℕ)) → AllByRecursion (AllByRecursion Byte) bodies → AllByRecursion Byte (assembled v bodies)
 under_assembled v bodies h =
     All-append Byte (contents_bytes v (map length bodies)) _
     (under_on 2 _ _ (under_on 2 _ _ (under_spell entry_bytes next_entry (λ s l. under_on 2 s.0 _ (under_on 4 s.1 _ (under_bytes_of 4 l))) (1, first v) _)))

@@ -3,7 +3,7 @@ use Rattle.std.proofs.Common.{◌≡◌, ℕ, suc, ◌+◌, ◌-◌, ◌^◌, �
 use borrow.Author.Differences.{ints}
 use Rattle.std.proofs.lemmas.Bool.{leb-true, le-leb, ltb-true, lt-ltb, le-ltb, and_parts, and_from, or_cases, or_left, or_right}
 use Rattle.std.proofs.lemmas.Int.{to_z-of_z, of_z-to_z}
-use Rattle.std.specs.List.{AllByRecursion as All}
+use Rattle.std.specs.List.{AllByRecursion}
 use Rattle.chain_format.specs.Reader.{Reader, Part, bytes_of, spell, stay, each, from, within, field, counted}
 use Rattle.chain.specs.Chains.{Edge, Row, Ascends, Limited, LawfulEdge, most_states}
 use Rattle.chain_format.specs.Format.{Version, small, rate, coefficient, edge, form, coefficient_bytes, edge_bytes, row_bytes}
@@ -73,11 +73,11 @@ coefficient_codec p b =
     (λ z _ h. (to_z-of_z w16 z (under_of_z z h).1, ((under_of_z z h).0, small-of_z z h)))
 
 -- ---- what holds of each, without places
-each_limited : (zs : List ℤ) (at : ℕ) → Each (each coefficient_bytes) stay (λ _ z _. Limited z) 0 zs at → All Limited zs
+each_limited : (zs : List ℤ) (at : ℕ) → Each (each coefficient_bytes) stay (λ _ z _. Limited z) 0 zs at → AllByRecursion Limited zs
 each_limited [] at h = tt
 each_limited (z ∷ zs) at h = (h.0, each_limited zs _ h.1)
 
-limited_each : (zs : List ℤ) (at : ℕ) → All Limited zs → Each (each coefficient_bytes) stay (λ _ z _. Limited z) 0 zs at
+limited_each : (zs : List ℤ) (at : ℕ) → AllByRecursion Limited zs → Each (each coefficient_bytes) stay (λ _ z _. Limited z) 0 zs at
 limited_each [] at h = tt
 limited_each (z ∷ zs) at h = (h.0, limited_each zs _ h.1)
 
@@ -96,7 +96,7 @@ abbrev leave : ℕ → Edge → ℕ
 leave _ e = e.successor + 1
 
 abbrev Edges : ℕ → ℕ → ℕ → List Edge → Type 0
-Edges n size low es = Ascends low n (map (λ e. e.successor) es) × All (LawfulEdge size) es
+Edges n size low es = Ascends low n (map (λ e. e.successor) es) × AllByRecursion (LawfulEdge size) es
 
 each_edges : (v : Version) (n size : ℕ) (es : List Edge) (low at : ℕ) → Each (each (edge_bytes v)) leave (Fits n size) low es at → Edges n size low es
 each_edges v n size [] low at h = (tt, tt)
@@ -123,7 +123,7 @@ pub record Formed (n m : ℕ) (r : Row) : Type 0 where
   pub edges_some : 1 ≤ length r.edges
   pub edges_few : length r.edges ≤ 8
   pub edges_rise : Ascends 0 n (map (λ e. e.successor) r.edges)
-  pub edges_lawful : All (LawfulEdge (2 ^ length r.rates)) r.edges
+  pub edges_lawful : AllByRecursion (LawfulEdge (2 ^ length r.rates)) r.edges
 
 pub form_codec : (v : Version) → Roomy v → (p : Part) → Bytes p.bytes → (n m : ℕ) → n ≤ most_states → m ≤ 4 → Codec p (form v p n m) (row_bytes v) (λ r _. Formed n m r)
 form_codec v room p b n m few less =

@@ -1,6 +1,6 @@
 -- The theorems of the format.
 use Rattle.std.proofs.Common.{◌≡◌, ℕ, ◌<◌, ◌≤◌, true, List, map, length, get_or, sym, refl, ap, ◌∙◌, arith}
-use Rattle.std.specs.List.{range_with_len, AllByRecursion as All}
+use Rattle.std.specs.List.{range_with_len, AllByRecursion}
 use Rattle.std.proofs.lemmas.List.FromFn.{fill_by_all, length-map-range_with_len, get_or-map-range_with_len}
 use Rattle.std.proofs.ByRecursion.{All-get_or, All-from_get_or}
 use Rattle.chain.specs.Chains.{Meaning, Lawful, LawfulRow}
@@ -25,7 +25,7 @@ file_lawful f l =
       rows = λ s h. All-get_or (LawfulRow _ _ _) f.rows s no_row (omega (arith, l.rows_many)) l.rows_lawful;
     }
 
-all_counted : {X : Type 0} (P : X → Type 0) (g : ℕ → X) (n : ℕ) (d : X) → ((s : ℕ) → s < n → P (g s)) → All P (map g (range_with_len 0 n))
+all_counted : {X : Type 0} (P : X → Type 0) (g : ℕ → X) (n : ℕ) (d : X) → ((s : ℕ) → s < n → P (g s)) → AllByRecursion P (map g (range_with_len 0 n))
 all_counted P g n d h =
     All-from_get_or P _ d λ i l.
     let m : i < n = omega (arith, length-map-range_with_len g 0 n) in

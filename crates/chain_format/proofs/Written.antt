@@ -1,6 +1,6 @@
 -- The bytes of a file, in the order in which they are written.
 use Rattle.std.proofs.Common.{◌≡◌, ℕ, zero, suc, ◌+◌, ◌-◌, ◌*◌, ◌/◌, ◌%◌, ◌^◌, ◌<◌, ◌≤◌, List, [], ◌∷◌, ◌++◌, map, length, get_or, take, drop, sym, refl, ap, ◌∙◌, zero-add, mul-suc, arith, length-append}
-use Rattle.std.specs.List.{range_with_len, flat_map, AllByRecursion as All}
+use Rattle.std.specs.List.{range_with_len, flat_map, AllByRecursion}
 use Rattle.std.proofs.lemmas.List.FromFn.{map-range_with_len_more, length-map-range_with_len}
 use Rattle.std.proofs.lemmas.List.{append_assoc, append-nil, take_all}
 use Rattle.chain.specs.Chains.{Edge, Row, Meaning, LawfulEdge, LawfulRow}
@@ -55,7 +55,7 @@ pub length-counted : {A : Type 0} (w : A → List ℕ) (next : ℕ → A → ℕ
 length-counted w next f k i h = length-spell (each w) next k (λ _ a. h a) 0 _ ∙ ap (λ n. k * n) (length-map-range_with_len f 0 i)
 
 -- ---- the length of a row
-edges_length : (v : Version) (size : ℕ) (f : ℕ → Edge → ℕ) (s : ℕ) (es : List Edge) → All (LawfulEdge size) es
+edges_length : (v : Version) (size : ℕ) (f : ℕ → Edge → ℕ) (s : ℕ) (es : List Edge) → AllByRecursion (LawfulEdge size) es
     → length (spell (each (edge_bytes v)) f s es) ≡ (v.wide + 2 * size) * length es
 unfolding spell
 edges_length v size f s [] a = omega arith

@@ -1,6 +1,6 @@
 -- The record of a lawful row spells the row.
 use Rattle.std.proofs.Common.{◌≡◌, ℕ, suc, ◌+◌, ◌-◌, ◌*◌, ◌^◌, ◌<◌, ◌≤◌, List, [], ◌∷◌, ◌++◌, map, length, take, drop, replicate, Ok, Err, Result, sym, refl, ap, ◌∙◌, arith, MatchResult}
-use Rattle.std.specs.List.{AllByRecursion as All}
+use Rattle.std.specs.List.{AllByRecursion}
 use Rattle.std.proofs.lemmas.List.{length-append, length-take, length-drop, take_at, length-map}
 use Rattle.chain.specs.Chains.{Edge, Row, Meaning, Lawful, LawfulEdge, LawfulRow}
 use Rattle.chain.specs.Filled.{filled_edge, filled, no_edge}
@@ -21,7 +21,7 @@ edge-record_length v size e h l =
 edge_same : (v : Version) (size : ℕ) (e : Edge) → LawfulEdge size e → edge_record_bytes v size (filled_edge e) ≡ edge_bytes v e
 edge_same v size e l = ap (λ t. bytes_of v.wide e.successor ++ spell (each coefficient_bytes) stay 0 t) (take_at e.coefficients _ size l.many)
 
-edges_same : (v : Version) (size : ℕ) (f : ℕ → Edge → ℕ) (s : ℕ) (es : List Edge) → All (LawfulEdge size) es
+edges_same : (v : Version) (size : ℕ) (f : ℕ → Edge → ℕ) (s : ℕ) (es : List Edge) → AllByRecursion (LawfulEdge size) es
     → spell (each (edge_record_bytes v size)) stay 0 (map filled_edge es) ≡ spell (each (edge_bytes v)) f s es
 unfolding spell
 edges_same v size f s [] a = refl

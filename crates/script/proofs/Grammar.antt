@@ -1,7 +1,7 @@
 -- What is read is what the grammar says.
 use Rattle.std.proofs.Common.{◌≡◌, ℕ, suc, ◌+◌, ◌-◌, ◌*◌, ◌^◌, ◌≤◌, true, cond, ◌&&◌, eqb, ltb, leb, List, [], ◌∷◌, ◌++◌, map, length, Some, None, Option, sym, refl, ap, ◌∙◌, inl, inr, ⊎_elim, arith}
 use Rattle.std.specs.Option.{option_map}
-use Rattle.std.specs.List.{AllByRecursion as All}
+use Rattle.std.specs.List.{AllByRecursion}
 use Rattle.std.proofs.lemmas.List.{append_assoc, append-nil}
 use Rattle.std.proofs.lemmas.Bool.{cases_Bool, cond-true, cond-false, and_parts, and_from, leb-true, ltb-true, eqb-true, eqb-false, le-leb, lt-ltb}
 use Rattle.theory.specs.Runs.{Command, lay_out, cut, show_safe, show_unsafe, count_boxes, find_box, measure}
@@ -17,7 +17,7 @@ pub record Found (count n : ℕ) (bs ns : List ℕ) : Type 0 where
   pub rest : List ℕ
   pub more : List ℕ
   pub text : bs ≡ ds ++ rest
-  pub digits : All Digit ds
+  pub digits : AllByRecursion Digit ds
   pub fits : fit (count + length ds) (value_of n ds) ≡ true
   pub numbers : ns ≡ value_of n ds ∷ more
   pub follows : Numbers rest more
@@ -37,7 +37,7 @@ kept_some count n o ns e =
     from-mapped None f h = absurd (never h)
     from-mapped (Some ms) f h = (ms, f, refl, cc)
 
-pub found_number : (ds : List ℕ) (n : ℕ) → All Digit ds → fit (length ds) (value_of 0 ds) ≡ true → n ≡ value_of 0 ds → Number ds n
+pub found_number : (ds : List ℕ) (n : ℕ) → AllByRecursion Digit ds → fit (length ds) (value_of 0 ds) ≡ true → n ≡ value_of 0 ds → Number ds n
 found_number ds n a f e =
     let p = and_parts (leb 1 (length ds) && leb (length ds) 10) (ltb (value_of 0 ds) (2 ^ 32)) f in
     let q = and_parts (leb 1 (length ds)) (leb (length ds) 10) p.0 in
@@ -105,7 +105,7 @@ numbers_sound (b ∷ bs) ns e =
     (cases_Bool (eqb b 32))
 
 -- ---- numbers: complete
-runs_on : (count n : ℕ) (ds tail : List ℕ) → All Digit ds → within count n (ds ++ tail) ≡ within (count + length ds) (value_of n ds) tail
+runs_on : (count n : ℕ) (ds tail : List ℕ) → AllByRecursion Digit ds → within count n (ds ++ tail) ≡ within (count + length ds) (value_of n ds) tail
 runs_on count n [] tail a = let z : count + 0 ≡ count = omega arith in rw z refl
 runs_on count n (d ∷ ds) tail a =
     let z : count + 1 + length ds ≡ count + suc (length ds) = omega arith in
@@ -258,13 +258,13 @@ lines_last : (b : ℕ) (l : List ℕ) → Unbroken (b ∷ l) → lines_of (b ∷
 lines_last b [] h = no_break b [] h.0 ∙ ap (on_first b) lines_nil
 lines_last b (x ∷ l) h = no_break b (x ∷ l) h.0 ∙ ap (on_first b) (lines_last x l h.1)
 
-lines_broken : (front : List (List ℕ)) (more : List ℕ) → All Unbroken front → lines_of (broken front ++ more) ≡ front ++ lines_of more
+lines_broken : (front : List (List ℕ)) (more : List ℕ) → AllByRecursion Unbroken front → lines_of (broken front ++ more) ≡ front ++ lines_of more
 lines_broken [] more h = refl
 lines_broken (l ∷ front) more h =
     ap lines_of (append_assoc (l ++ 10 ∷ []) (broken front) more ∙ append_assoc l (10 ∷ []) (broken front ++ more))
     ∙ lines_ended l (broken front ++ more) h.0 ∙ ap (λ t. l ∷ t) (lines_broken front more h.1)
 
-all_front : (front : List (List ℕ)) (l : List ℕ) → All Unbroken (front ++ l ∷ []) → All Unbroken front × Unbroken l
+all_front : (front : List (List ℕ)) (l : List ℕ) → AllByRecursion Unbroken (front ++ l ∷ []) → AllByRecursion Unbroken front × Unbroken l
 all_front [] l h = (tt, h.0)
 all_front (x ∷ front) l h = let r = all_front front l h.1 in ((h.0, r.0), r.1)
 

@@ -1,6 +1,6 @@
 -- The lines of a script, and lines whose numbers stand among the numbers of the script.
 use Rattle.std.proofs.Common.{◌≡◌, ℕ, zero, suc, ◌+◌, ◌-◌, ◌<◌, ◌≤◌, Bool, true, false, ◌&&◌, eqb, leb, List, [], ◌∷◌, ◌++◌, map, length, get_or, take, drop, vec_items, Option, sym, refl, ap, ◌∙◌, ⊎_elim, arith}
-use Rattle.std.specs.List.{AllByRecursion as All}
+use Rattle.std.specs.List.{AllByRecursion}
 use Rattle.std.proofs.lemmas.List.{append-nil, append_assoc, length-append, map-append, drop-append-le, take-append-le, length-drop, drop_at, take_all, get_or_past, get_or-map, length-map}
 use Rattle.std.proofs.lemmas.Bool.{cases_Bool, cond-true, cond-false, eq-eqb, ne_eqb, le-leb, leb-true, and_from, and_left}
 use Rattle.script.specs.Grammar.{bad}
@@ -57,15 +57,15 @@ placed_grown : (numbers more : List ℕ) (line : Line) → Placed numbers line �
 placed_grown numbers more Malformed p = tt
 placed_grown numbers more (Spelled letter from to) p = omega (arith, length-append numbers more)
 
-all_placed : (numbers more : List ℕ) (lines : List Line) → All (Placed numbers) lines → All (Placed (numbers ++ more)) lines
+all_placed : (numbers more : List ℕ) (lines : List Line) → AllByRecursion (Placed numbers) lines → AllByRecursion (Placed (numbers ++ more)) lines
 all_placed numbers more [] p = tt
 all_placed numbers more (l ∷ ls) p = (placed_grown numbers more l p.0, all_placed numbers more ls p.1)
 
-all_said : (n : ℕ) (numbers more : List ℕ) (lines : List Line) → All (Placed numbers) lines → map (said_in n (numbers ++ more)) lines ≡ map (said_in n numbers) lines
+all_said : (n : ℕ) (numbers more : List ℕ) (lines : List Line) → AllByRecursion (Placed numbers) lines → map (said_in n (numbers ++ more)) lines ≡ map (said_in n numbers) lines
 all_said n numbers more [] p = refl
 all_said n numbers more (l ∷ ls) p = let e = said_grown n numbers more l p.0 in let f = all_said n numbers more ls p.1 in rw (e, f) refl
 
-all_push : (P : Line → Type 0) (lines : List Line) (line : Line) → All P lines → P line → All P (lines ++ line ∷ [])
+all_push : (P : Line → Type 0) (lines : List Line) (line : Line) → AllByRecursion P lines → P line → AllByRecursion P (lines ++ line ∷ [])
 all_push P [] line p q = (q, tt)
 all_push P (l ∷ ls) line p q = (p.0, all_push P ls line p.1 q)
 
@@ -73,7 +73,7 @@ all_push P (l ∷ ls) line p q = (p.0, all_push P ls line p.1 q)
 pub record Read (script rest : List ℕ) (lines : List Line) (numbers : List ℕ) : Type 0 where
   pub texts : List (List ℕ)
   pub left : lines_of script ≡ texts ++ lines_of rest
-  pub placed : All (Placed numbers) lines
+  pub placed : AllByRecursion (Placed numbers) lines
   pub says : (n : ℕ) → map (said_in n numbers) lines ≡ map (line_said n) texts
 
 pub read_none : (script : List ℕ) → Read script script [] []

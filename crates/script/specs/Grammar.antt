@@ -1,6 +1,6 @@
 -- The script: its lines, and which text is which call.
 use Rattle.std.specs.Prelude.{◌≡◌, ℕ, ◌+◌, ◌-◌, ◌*◌, ◌^◌, ◌<◌, ◌≤◌, ◌⊎◌, List, [], ◌∷◌, ◌++◌, length, take, drop, ◌≢◌}
-use Rattle.std.specs.List.{flat_map, AllByRecursion as All}
+use Rattle.std.specs.List.{flat_map, AllByRecursion}
 use Rattle.theory.specs.Runs.{Command, lay_out, cut, show_safe, show_unsafe, count_boxes, find_box, measure}
 
 -- ---- numbers
@@ -14,7 +14,7 @@ value_of n (d ∷ ds) = value_of (10 * n + (d - 48)) ds
 
 -- the text is this number: 1 to 10 decimal digits that make it, and it is below 2^32
 pub record Number (ds : List ℕ) (n : ℕ) : Type 0 where
-  pub digits : All Digit ds
+  pub digits : AllByRecursion Digit ds
   pub some : 1 ≤ length ds
   pub few : length ds ≤ 10
   pub value : value_of 0 ds ≡ n
@@ -47,7 +47,7 @@ Ends text = text ≡ 69 ∷ []
 -- ---- lines
 -- no byte of the text is byte 10
 abbrev pub Unbroken : List ℕ → Type 0
-Unbroken text = All (λ b. b ≢ 10) text
+Unbroken text = AllByRecursion (λ b. b ≢ 10) text
 
 -- each line with byte 10 behind it
 abbrev pub broken : List (List ℕ) → List ℕ
@@ -55,7 +55,7 @@ broken = flat_map (λ l. l ++ 10 ∷ [])
 
 -- the script has these lines: each ends with byte 10, the last perhaps not, if it is not empty
 abbrev pub HasLines : List ℕ → List (List ℕ) → Type 0
-HasLines script ls = All Unbroken ls × ((script ≡ broken ls) ⊎ ((front : List (List ℕ)) × ((last : List ℕ) × (ls ≡ front ++ last ∷ []) × (1 ≤ length last) × (script ≡ broken front ++ last))))
+HasLines script ls = AllByRecursion Unbroken ls × ((script ≡ broken ls) ⊎ ((front : List (List ℕ)) × ((last : List ℕ) × (ls ≡ front ++ last ∷ []) × (1 ≤ length last) × (script ≡ broken front ++ last))))
 
 -- ---- what a line says: a call, the end, or neither
 pub data Said : Type 0 where

@@ -3,7 +3,7 @@ use Rattle.std.proofs.Common.{◌≡◌, ℕ, zero, suc, ◌+◌, ◌*◌, ◌^�
 use native.Mathlib.Nat.{one-le-pow}
 use lib.Signed.{yes_non_neg, pos-nat_abs}
 use borrow.Author.Differences.{ints, at_most_in, below_in}
-use Rattle.std.specs.List.{ContainsAt as Has}
+use Rattle.std.specs.List.{ContainsAt}
 use Rattle.std.proofs.ByRecursion.{all-has, all_has_itself}
 use Rattle.std.proofs.lemmas.Bool.{not_from_false}
 use Rattle.chain.specs.Chains.{Edge, Meaning, Lawful, bad}
@@ -43,15 +43,15 @@ module _ (c : Meaning) (G : ℕ) (b : Box) (x : Setting) (lawful : Lawful c) (pr
   abbrev step : (ℕ → ℕ) → ℕ → ℕ
   step f s = sum_n (λ e. f e.successor * weight s e) (edges s)
 
-  chance_is : (s : ℕ) → s < n → (e : Edge) → Has (edges s) e → chance-of s e ≡ pos (weight s e)
+  chance_is : (s : ℕ) → s < n → (e : Edge) → ContainsAt (edges s) e → chance-of s e ≡ pos (weight s e)
   chance_is s h e m = sym (pos-nat_abs _ (yes_non_neg (chance x (lawful.rows s h) proper inside e
       (λ g i. all-has (Possible G g (c.row s)) (edges s) e (chances s h g i) m))))
 
-  next : (s : ℕ) → s < n → (e : Edge) → Has (edges s) e → e.successor < n
+  next : (s : ℕ) → s < n → (e : Edge) → ContainsAt (edges s) e → e.successor < n
   next s h e m = all-has (λ e. e.successor < n) (edges s) e (successors (lawful.rows s h)) m
 
-  sum_is : (s : ℕ) → (f : Edge → ℤ) (g : Edge → ℕ) → ((e : Edge) → Has (edges s) e → f e ≡ pos (g e)) → sumℤ f (edges s) ≡ pos (sum_n g (edges s))
-  sum_is s f g h = sum_pos (Has (edges s)) f g h (edges s) (all_has_itself (edges s))
+  sum_is : (s : ℕ) → (f : Edge → ℤ) (g : Edge → ℕ) → ((e : Edge) → ContainsAt (edges s) e → f e ≡ pos (g e)) → sumℤ f (edges s) ≡ pos (sum_n g (edges s))
+  sum_is s f g h = sum_pos (ContainsAt (edges s)) f g h (edges s) (all_has_itself (edges s))
 
   mean-is : (s : ℕ) → s < n → (f : ℕ → ℕ) → sumℤ (λ e. f e.successor · chance-of s e) (edges s) ≡ pos (step f s)
   mean-is s h f = sum_is s _ (λ e. f e.successor * weight s e) (λ e m. ap (λ z. f e.successor · z) (chance_is s h e m))
@@ -64,7 +64,7 @@ module _ (c : Meaning) (G : ℕ) (b : Box) (x : Setting) (lawful : Lawful c) (pr
 
   -- the laws of a step
   mono : (f g : ℕ → ℕ) → ((t : ℕ) → t < n → f t ≤ g t) → (s : ℕ) → s < n → step f s ≤ step g s
-  mono f g k s h = sum_mono (Has (edges s)) _ _ (λ e m. mul-le-mul_right (weight s e) (k e.successor (next s h e m))) (edges s) (all_has_itself (edges s))
+  mono f g k s h = sum_mono (ContainsAt (edges s)) _ _ (λ e m. mul-le-mul_right (weight s e) (k e.successor (next s h e m))) (edges s) (all_has_itself (edges s))
 
   scale : (m : ℕ) (f : ℕ → ℕ) (s : ℕ) → step (λ t. m * f t) s ≡ m * step f s
   scale m f s = sum_times m (λ e. f e.successor) (weight s) (edges s)

@@ -3,7 +3,7 @@ use Rattle.std.proofs.Common.{◌≡◌, ℕ, ◌<◌, ◌≤◌, Bool, true, fa
 use mathlib.Core.Path.{fun_ext}
 use lib.Signed.{le_z}
 use borrow.Author.Differences.{le-true, true_is_le, le_out, at_most_in}
-use Rattle.std.specs.List.{AllByRecursion as All}
+use Rattle.std.specs.List.{AllByRecursion}
 use Rattle.std.proofs.lemmas.Bool.{false≢true, leb-true, le-leb, not_from_false}
 use Rattle.std.proofs.lemmas.Bool.Decides.{Decides-at, Decides-and, Decides-eqb, Decides-ltb}
 use Rattle.std.proofs.ByRecursion.{Decides-by_and}
@@ -54,10 +54,10 @@ module _ (c : Meaning) where
       (Decides-at _ _ (or_is (bad c s) _) (decides_if (bad c s) _ (Decides-eqb (at v s) million)))
 
   module _ (G : ℕ) (b : Box) where
-    decides_chances : (s : ℕ) → Decides (chance_ok c G b s) ((g : ℕ → ℕ) → Corner b (c.row s) g → All (Possible G g (c.row s)) (c.row s).edges)
-    decides_chances s = let r = c.row s in at_corners b r (λ g. possible G g r) (λ g. All (Possible G g r) r.edges)
+    decides_chances : (s : ℕ) → Decides (chance_ok c G b s) ((g : ℕ → ℕ) → Corner b (c.row s) g → AllByRecursion (Possible G g (c.row s)) (c.row s).edges)
+    decides_chances s = let r = c.row s in at_corners b r (λ g. possible G g r) (λ g. AllByRecursion (Possible G g r) r.edges)
         (λ g. let ok = λ (e : Edge). le_z (pos 0) (value G g r e) in Decides-by_and ok (Possible G g r) (every ok) (λ e. decides_int_le (pos 0) (value G g r e)) refl (λ _ _. refl) r.edges)
-        (λ g g' h. subst (λ f. All (λ e. pos 0 ≤ℤ f e) r.edges) (value_same G g g' r h))
+        (λ g g' h. subst (λ f. AllByRecursion (λ e. pos 0 ≤ℤ f e) r.edges) (value_same G g g' r h))
 
     decides_claim : (k : Said) (s : ℕ) → Decides (claim_ok k c G b s) (k.tests (bad c s) s ≡ true → (g : ℕ → ℕ) → Corner b (c.row s) g → Kept k c.unit G (c.row s) s g)
     decides_claim k s = let r = c.row s in decides_if (k.tests (bad c s) s) _ (at_corners b r (kept k c.unit G r s) (Kept k c.unit G r s)

@@ -1,6 +1,6 @@
 -- The conditions on a witness, at every corner of every row.
 use Rattle.std.specs.Prelude.{◌≡◌, ℕ, ◌+◌, ◌-◌, ◌*◌, ◌/◌, ◌^◌, ◌<◌, ◌≤◌, Bool, true, false, not, ◌&&◌, List, length, ℤ, pos, ◌+ℤ◌, ◌≤ℤ◌, nat_lt, slice_index}
-use Rattle.std.specs.List.{AllByRecursion as All}
+use Rattle.std.specs.List.{AllByRecursion}
 use Rattle.chain.specs.Chains.{Meaning, Row, Edge, bad}
 use Rattle.theory.specs.Words.{◌·◌, sumℤ}
 use Rattle.theory.specs.Values.{named, value}
@@ -27,7 +27,7 @@ abbrev pub Possible : ℕ → (ℕ → ℕ) → Row → Edge → Type 0
 Possible G g r e = pos 0 ≤ℤ value G g r e
 
 abbrev pub Chances : Meaning → ℕ → Box → Type 0
-Chances c G b = AtCorners c b (λ s g. All (Possible G g (c.row s)) (c.row s).edges)
+Chances c G b = AtCorners c b (λ s g. AllByRecursion (Possible G g (c.row s)) (c.row s).edges)
 
 -- numbers of at most a million, one for each state; v of a bad state is exactly that
 pub record Numbers (c : Meaning) (v : List ℕ) : Type 0 where

@@ -1,7 +1,7 @@
 -- The record that a chain fills with a lawful row can be read, and gives the row back.
 use Rattle.std.proofs.Common.{◌≡◌, ℕ, zero, suc, ◌+◌, ◌-◌, ◌^◌, ◌<◌, ◌≤◌, List, [], ◌∷◌, map, length, get_or, replicate, ℤ, pos, negsuc, nat_abs, refl, ap, ◌∙◌, inl, inr, zero-le, arith}
 use borrow.Author.Differences.{ints}
-use Rattle.std.specs.List.{AllByRecursion as All}
+use Rattle.std.specs.List.{AllByRecursion}
 use Rattle.std.proofs.lemmas.List.{take_at, length-append, length-replicate, length-map, get_or_past}
 use Rattle.std.proofs.ByRecursion.{All-get_or, All-append, All-map, All-weaker}
 use Rattle.std.proofs.lemmas.Bool.Decides.{leb_tells}
@@ -13,18 +13,18 @@ use Rattle.witness.specs.Rows.{Small, blank, edge_of, row_of, Readable}
 padded_long : {X : Type 0} (k : ℕ) (d : X) (xs : List X) → length xs ≤ k → length (padded k d xs) ≡ k
 padded_long k d xs h = length-append xs (replicate (k - length xs) d) ∙ ap (λ n. length xs + n) (length-replicate (k - length xs) d) ∙ omega arith
 
-all_replicate : {X : Type 0} (P : X → Type 0) (n : ℕ) (d : X) → P d → All P (replicate n d)
+all_replicate : {X : Type 0} (P : X → Type 0) (n : ℕ) (d : X) → P d → AllByRecursion P (replicate n d)
 all_replicate P zero d p = tt
 all_replicate P (suc n) d p = (p, all_replicate P n d p)
 
-padded_all : {X : Type 0} (P : X → Type 0) (k : ℕ) (d : X) (xs : List X) → P d → All P xs → All P (padded k d xs)
+padded_all : {X : Type 0} (P : X → Type 0) (k : ℕ) (d : X) (xs : List X) → P d → AllByRecursion P xs → AllByRecursion P (padded k d xs)
 padded_all P k d xs p h = All-append P xs (replicate (k - length xs) d) h (all_replicate P (k - length xs) d p)
 
 -- what holds of every element and of the default holds wherever a list is read
-everywhere : {X : Type 0} (P : X → Type 0) (xs : List X) (d : X) → All P xs → P d → (i : ℕ) → P (get_or xs i d)
+everywhere : {X : Type 0} (P : X → Type 0) (xs : List X) (d : X) → AllByRecursion P xs → P d → (i : ℕ) → P (get_or xs i d)
 everywhere P xs d h p i = elim (leb_tells (length xs) i) [ inl t ↦ rw (get_or_past xs i d t.1) p | inr t ↦ All-get_or P xs i d t.1 h ]
 
-ascends_below : (low top : ℕ) (xs : List ℕ) → Ascends low top xs → All (λ x. x < top) xs
+ascends_below : (low top : ℕ) (xs : List ℕ) → Ascends low top xs → AllByRecursion (λ x. x < top) xs
 ascends_below low top [] h = tt
 ascends_below low top (x ∷ xs) h = (h.1, ascends_below (x + 1) top xs h.2)
 
@@ -36,7 +36,7 @@ limited_small (negsuc n) h = omega (arith, ints, h.0)
 edge_back : (j : ℕ) (e : Edge) → length e.coefficients ≡ 2 ^ j → edge_of j (filled_edge e) ≡ e
 edge_back j e h = ap (λ cs. record { successor = e.successor; coefficients = cs }) (take_at e.coefficients (replicate (8 - length e.coefficients) (pos 0)) (2 ^ j) h)
 
-edges_back : (j : ℕ) (es : List Edge) → All (LawfulEdge (2 ^ j)) es → map (edge_of j) (map filled_edge es) ≡ es
+edges_back : (j : ℕ) (es : List Edge) → AllByRecursion (LawfulEdge (2 ^ j)) es → map (edge_of j) (map filled_edge es) ≡ es
 edges_back j [] h = refl
 edges_back j (e ∷ es) h = λ i. edge_back j e h.0.many i ∷ edges_back j es h.1 i
 

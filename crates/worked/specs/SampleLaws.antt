@@ -2,7 +2,7 @@
 use Rattle.std.specs.Prelude.{◌≡◌, ℕ, zero, suc, ◌<◌, ◌≤◌, [], ◌∷◌, ℤ, pos, negsuc, ◌+ℤ◌, refl}
 use Rattle.std.proofs.Common.{arith, lit≤, lit<}
 use Rattle.std.specs.Int.Signed.{le_z_yes}
-use Rattle.std.specs.List.{AllByRecursion as All}
+use Rattle.std.specs.List.{AllByRecursion}
 use Rattle.chain.specs.Chains.{Lawful, LawfulRow, Limited, looping, total, due}
 use Rattle.worked.specs.declared.samples.Sample.{Sample}
 use Rattle.worked.specs.declared.samples.Sample.TheVariants.{Relay, Single, Doubled}
@@ -41,7 +41,7 @@ looping_lawful states rates s h = record {
     sums (suc i) h = absurd (omega arith)
 
 fork_lawful : (states rates r s t : ℕ) (a b c d : ℤ) → r < rates → s < t → t < states
-    → All Limited (a ∷ b ∷ c ∷ d ∷ []) → a +ℤ (c +ℤ pos 0) ≡ pos 1 → b +ℤ (d +ℤ pos 0) ≡ pos 0
+    → AllByRecursion Limited (a ∷ b ∷ c ∷ d ∷ []) → a +ℤ (c +ℤ pos 0) ≡ pos 1 → b +ℤ (d +ℤ pos 0) ≡ pos 0
     → LawfulRow states rates 1 (fork r (edge s a b) (edge t c d))
 fork_lawful states rates r s t a b c d r-in rise t-in limits one rest = record {
   rates_few = lit≤ tt;
