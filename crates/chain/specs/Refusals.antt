@@ -1,5 +1,5 @@
--- The number and the place of each refusal.
-use Rattle.std.specs.Prelude.{ℕ}
+-- The number and the place of each refusal, and its words.
+use Rattle.std.specs.Prelude.{ℕ, List, ◌∷◌, ◌++◌, codes, decimal}
 use Rattle.chain.specs.declared.refusal.Refusal.{Refusal}
 use Rattle.chain.specs.declared.refusal.Refusal.TheVariants.{BadContents, BadNumbers, BadMark, BadRow, BadSum, BadGrid, BadField, InUse, NoBox, NotOpen, BadCut, Full, NoState, BadPasses, ShortBuffer, BadLength, BadNumber, BadChance, BadBound, BadSteps, BadStart, TooLong, BadLine}
 
@@ -52,3 +52,7 @@ place_of (BadSteps state) = state
 place_of BadStart = 0
 place_of TooLong = 0
 place_of BadLine = 0
+
+-- as it is printed: the word, the number and the place
+abbrev pub words_of : Refusal → List ℕ
+words_of e = codes "refused " ++ (decimal (number_of e) ++ (32 ∷ decimal (place_of e)))

@@ -1,3 +1,4 @@
 pub mod Fills
+pub mod Marks
 pub mod Openings
-pub mod Words
+pub mod Parts

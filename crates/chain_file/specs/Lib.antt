@@ -1,5 +1,5 @@
 pub mod Faults
+pub mod Parts
 pub mod Columns
 pub mod First
-pub mod Words
 pub mod Known

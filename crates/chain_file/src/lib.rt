@@ -4,9 +4,9 @@
 
 mod check;
 mod contents;
-mod read;
+mod numbers;
+mod part;
 mod row;
-mod section;
 pub mod stored;
 mod sums;
 #[cfg(test)]

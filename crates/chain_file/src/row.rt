@@ -1,170 +1,124 @@
-// Rows read from the bytes of a file.
-ghost use Rattle.std.specs.Prelude.{◌≡◌, ℕ, ◌+◌, ◌-◌, ◌*◌, ◌^◌, ◌<◌, ◌≤◌, List, map, length, MatchResult};
+// Rows read from a part of a file.
+ghost use Rattle.std.specs.Prelude.{◌≡◌, ℕ, ◌+◌, ◌-◌, ◌*◌, ◌^◌, ◌<◌, ◌≤◌, List, map, length, IfOk, IfErr};
 ghost use Rattle.chain.specs.Chains.{Edge, Row};
-ghost use Rattle.chain.specs.Filled.{padded, no_edge, filled_edge, filled};
-ghost use Rattle.chain.specs.declared.refusal.Refusal.TheVariants.{BadRow};
-ghost use Rattle.chain_format.specs.Reader.{part, within, repeat, counted, got, refused};
-ghost use Rattle.chain_format.specs.Format.{version1, rate, edge, form};
+ghost use Rattle.chain.specs.Filled.{filled_edge, filled};
+ghost use Rattle.chain_format.specs.Reader.{repeat, stay, got, refused};
+ghost use Rattle.chain_format.specs.Format.{version1, rate, coefficient, edge, form};
+ghost use Rattle.chain_file.specs.Parts.{part_of, answer_by, Shows};
 
-use crate::read::{field_at, read_coefficients, read_rates};
-use crate::section::Section;
+use crate::part::Part;
 use chain::record::{EdgeRecord, NO_EDGE, RowRecord};
 use chain::refusal::Refusal;
 
-// An edge whose successor is at least `low`.
-pub(crate) fn read_edge(
-    bytes: &[u8],
-    end: usize,
-    at: usize,
-    states: u32,
-    size: usize,
-    low: u64,
-) -> Result<EdgeRecord, Refusal>
-    requires { (at ≤ end) × ((end ≤ length bytes.now) × ((size ≤ 8) × (at + 18 < 2 ^ 31))) }
-    ensures { MatchResult result (λ x. (e : Edge) × (edge version1 (part bytes.now end BadRow) states size low at ≡ got e (at + (2 + 2 * size))) × (x ≡ filled_edge e) × (at + (2 + 2 * size) ≤ end)) (λ e. edge version1 (part bytes.now end BadRow) states size low at ≡ refused e) }
+// The ascending rates of a row, one for each place of `into`.
+fn read_rates(part: &mut Part, rates: u32, into: &mut [u8]) -> Result<(), Refusal>
+    requires few { rates ≤ 256 }
+    requires near { part.old.at + length into.old < 2 ^ 31 }
+    ensures same { part_of part.new ≡ part_of part.old }
+    ensures place { part.new.at ≤ part.old.at + length into.old }
+    ensures answer { repeat (rate (part_of part.old) rates) (λ _ x. x + 1) (length into.old) 0 part.old.at
+        ≡ answer_by (λ _. into.new) result part.new.at }
 {
-    let successor = field_at(bytes, end, Section::Rows, 2, at, low, states as u64)?;
-    let mut coefficients = [0i16; 8];
-    read_coefficients(bytes, end, at + 2, &mut coefficients[0..size])?;
+    let mut low = 0;
+    for place in into.iter_mut() {
+        let rate = part.field::<1>(low, rates)?;
+        *place = rate as u8;
+        low = rate + 1;
+    }
+    Ok(())
+}
+
+// The coefficients of an edge, one for each place of `into`.
+fn read_coefficients(part: &mut Part, into: &mut [i16]) -> Result<(), Refusal>
+    requires near { part.old.at + 2 * length into.old < 2 ^ 31 }
+    ensures same { part_of part.new ≡ part_of part.old }
+    ensures place { part.new.at ≤ part.old.at + 2 * length into.old }
+    ensures answer { repeat (λ _. coefficient (part_of part.old)) stay (length into.old) 0 part.old.at
+        ≡ answer_by (λ _. into.new) result part.new.at }
+{
+    for place in into.iter_mut() {
+        *place = part.coefficient()?;
+    }
+    Ok(())
+}
+
+// An edge whose successor is at least `low`.
+fn read_edge(part: &mut Part, states: u32, size: usize, low: u32) -> Result<EdgeRecord, Refusal>
+    requires size { size ≤ 8 }
+    requires near { part.old.at + 18 < 2 ^ 31 }
+    ensures same { part_of part.new ≡ part_of part.old }
+    ensures place { part.new.at ≤ part.old.at + 18 }
+    ensures answer { Shows filled_edge (edge version1 (part_of part.old) states size low part.old.at) result part.new.at }
+    ensures below { IfOk result (λ edge. edge.successor < states) }
+{
+    let successor = part.field::<2>(low, states)?;
+    let mut coefficients = [0; 8];
+    read_coefficients(part, &mut coefficients[..size])?;
     Ok(EdgeRecord {
         successor,
         coefficients,
     })
 }
 
-// The least successor that the edge after this one may have.
-fn next_least(edge: &EdgeRecord) -> u64
-    ensures { result ≡ edge.now.successor + 1 }
-{
-    edge.successor as u64 + 1
-}
-
 // The edges of a row, one for each place of `into`, with ascending successors.
-pub(crate) fn read_edges(
-    bytes: &[u8],
-    end: usize,
-    at: usize,
+fn read_edges(
+    part: &mut Part,
     states: u32,
     size: usize,
-    low: u64,
     into: &mut [EdgeRecord],
 ) -> Result<(), Refusal>
-    requires { (at ≤ end) × ((end ≤ length bytes.now) × ((size ≤ 8) × (at + 18 * length into.old < 2 ^ 31))) }
-    ensures { MatchResult result (λ _. (es : List Edge) × (repeat (edge version1 (part bytes.now end BadRow) states size) (λ _ e. e.successor + 1) (length into.old) low at ≡ got es (at + (2 + 2 * size) * length into.old)) × (into.new ≡ map filled_edge es) × (at + (2 + 2 * size) * length into.old ≤ end)) (λ e. repeat (edge version1 (part bytes.now end BadRow) states size) (λ _ e. e.successor + 1) (length into.old) low at ≡ refused e) }
+    requires size { size ≤ 8 }
+    requires near { part.old.at + 18 * length into.old < 2 ^ 31 }
+    ensures same { part_of part.new ≡ part_of part.old }
+    ensures place { part.new.at ≤ part.old.at + 18 * length into.old }
+    ensures ok { IfOk result (λ _. (es : List Edge)
+        × (repeat (edge version1 (part_of part.old) states size) (λ _ e. e.successor + 1) (length into.old) 0 part.old.at ≡ got es part.new.at)
+        × (into.new ≡ map filled_edge es)) }
+    ensures err { IfErr result (λ e.
+        repeat (edge version1 (part_of part.old) states size) (λ _ e. e.successor + 1) (length into.old) 0 part.old.at ≡ refused e) }
 {
-    if into.len() == 0 {
-        return Ok(());
+    let mut low = 0;
+    for place in into.iter_mut() {
+        let edge = read_edge(part, states, size, low)?;
+        low = edge.successor + 1;
+        *place = edge;
     }
-    let first = read_edge(bytes, end, at, states, size, low)?;
-    into[0] = first;
-    read_edges(
-        bytes,
-        end,
-        at + (2 + 2 * size),
-        states,
-        size,
-        next_least(&first),
-        &mut into[1..],
-    )
+    Ok(())
 }
 
 // 2 to the power of a number up to 3.
-pub(crate) fn power(count: usize) -> usize
+pub(crate) fn power(count: u8) -> usize
     requires { count ≤ 3 }
-    ensures { (result ≡ 2 ^ count) × (result ≤ 8) }
+    ensures value { result ≡ 2 ^ count }
+    ensures few { result ≤ 8 }
 {
-    match count {
-        0 => 1,
-        1 => 2,
-        2 => 4,
-        _ => 8,
-    }
-}
-
-// The rates that a row names, and how many.
-#[derive(Clone, Copy)]
-pub(crate) struct Named {
-    pub(crate) rates: [u8; 3],
-    pub(crate) count: u8,
-}
-
-// The edges of a row, how many, and where they end.
-#[derive(Clone, Copy)]
-pub(crate) struct Led {
-    pub(crate) edges: [EdgeRecord; 8],
-    pub(crate) count: u8,
-    pub(crate) end: usize,
-}
-
-// A row, and where it ends.
-#[derive(Clone, Copy)]
-pub(crate) struct Found {
-    pub(crate) row: RowRecord,
-    pub(crate) end: usize,
-}
-
-pub(crate) fn read_named(bytes: &[u8], end: usize, at: usize, rates: u32) -> Result<Named, Refusal>
-    requires { (at ≤ end) × ((end ≤ length bytes.now) × ((rates ≤ 256) × (at + 4 < 2 ^ 31))) }
-    ensures { MatchResult result (λ t. (xs : List ℕ) × (counted (part bytes.now end BadRow) 1 (within 0 3) (rate (part bytes.now end BadRow) rates) (λ _ r. r + 1) 0 at ≡ got xs (at + 1 + t.count)) × (t.rates ≡ padded 3 0 xs) × (t.count ≡ length xs) × (t.count ≤ 3) × (at + 1 + t.count ≤ end)) (λ e. counted (part bytes.now end BadRow) 1 (within 0 3) (rate (part bytes.now end BadRow) rates) (λ _ r. r + 1) 0 at ≡ refused e) }
-{
-    let count = field_at(bytes, end, Section::Rows, 1, at, 0, 4)?;
-    let mut named = [0u8; 3];
-    read_rates(bytes, end, at + 1, 0, rates, &mut named[0..count as usize])?;
-    Ok(Named {
-        rates: named,
-        count: count as u8,
-    })
-}
-
-pub(crate) fn read_led(
-    bytes: &[u8],
-    end: usize,
-    at: usize,
-    states: u32,
-    size: usize,
-) -> Result<Led, Refusal>
-    requires { (at ≤ end) × ((end ≤ length bytes.now) × ((size ≤ 8) × (at + 145 < 2 ^ 31))) }
-    ensures { MatchResult result (λ t. (xs : List Edge) × (counted (part bytes.now end BadRow) 1 (within 1 8) (edge version1 (part bytes.now end BadRow) states size) (λ _ e. e.successor + 1) 0 at ≡ got xs t.end) × (t.edges ≡ padded 8 no_edge (map filled_edge xs)) × (t.count ≡ length xs) × (t.end ≤ end) × (t.end ≤ at + 145)) (λ e. counted (part bytes.now end BadRow) 1 (within 1 8) (edge version1 (part bytes.now end BadRow) states size) (λ _ e. e.successor + 1) 0 at ≡ refused e) }
-{
-    let count = field_at(bytes, end, Section::Rows, 1, at, 1, 9)?;
-    let mut edges = [NO_EDGE; 8];
-    read_edges(
-        bytes,
-        end,
-        at + 1,
-        states,
-        size,
-        0,
-        &mut edges[0..count as usize],
-    )?;
-    Ok(Led {
-        edges,
-        count: count as u8,
-        end: at + 1 + (2 + 2 * size) * count as usize,
-    })
+    1 << count
 }
 
 // The form of a row: its rates and its edges.
-pub(crate) fn read_row(
-    bytes: &[u8],
-    end: usize,
-    at: usize,
-    states: u32,
-    rates: u32,
-) -> Result<Found, Refusal>
-    requires { (at ≤ end) × ((end ≤ length bytes.now) × ((rates ≤ 256) × (at + 149 < 2 ^ 31))) }
-    ensures { MatchResult result (λ t. (x : Row) × (form version1 (part bytes.now end BadRow) states rates at ≡ got x t.end) × (t.row ≡ filled x) × (t.end ≤ end) × (length x.rates ≤ 3) × (t.end ≤ at + 149)) (λ e. form version1 (part bytes.now end BadRow) states rates at ≡ refused e) }
+pub(crate) fn read_row(part: &mut Part, states: u32, rates: u32) -> Result<RowRecord, Refusal>
+    requires few { rates ≤ 256 }
+    requires near { part.old.at + 149 < 2 ^ 31 }
+    ensures same { part_of part.new ≡ part_of part.old }
+    ensures place { part.new.at ≤ part.old.at + 149 }
+    ensures answer { Shows filled (form version1 (part_of part.old) states rates part.old.at) result part.new.at }
+    ensures named { IfOk result (λ row. row.rate_count ≤ 3) }
 {
-    let named = read_named(bytes, end, at, rates)?;
-    let size = power(named.count as usize);
-    let led = read_led(bytes, end, at + 1 + named.count as usize, states, size)?;
-    let first = named.rates;
-    let edges = led.edges;
-    let row = RowRecord {
-        rate_count: named.count,
-        rates: first,
-        edge_count: led.count,
+    let rate_count = part.field::<1>(0, 4)?;
+    let mut named = [0; 3];
+    read_rates(part, rates, &mut named[..rate_count as usize])?;
+    let edge_count = part.field::<1>(1, 9)?;
+    let mut edges = [NO_EDGE; 8];
+    read_edges(
+        part,
+        states,
+        power(rate_count as u8),
+        &mut edges[..edge_count as usize],
+    )?;
+    Ok(RowRecord {
+        rate_count: rate_count as u8,
+        rates: named,
+        edge_count: edge_count as u8,
         edges,
-    };
-    Ok(Found { row, end: led.end })
+    })
 }

@@ -11,7 +11,7 @@ ghost use Rattle.chain_writer.specs.Wrote.{Wrote};
 ghost use Rattle.chain_file.specs.First.{first_chain};
 
 use crate::check::check;
-use crate::read::value_at;
+use crate::part::{Part, Section, value_at};
 use crate::row::read_row;
 use chain::interface::Chain;
 use chain::record::RowRecord;
@@ -67,17 +67,18 @@ impl<'a> StoredChain<'a> {
     fn count(&self) -> u32
         ensures { result ≡ (chain_in self.now.bytes.now).states }
     {
-        value_at(self.bytes, 2, 44)
+        value_at::<2>(self.bytes, 44)
     }
 
     // Where the row of a state stands: its offset counts from the end of the offsets.
     fn row_place(&self, state: u32) -> usize
         requires { state < (chain_in self.now.bytes.now).states }
-        ensures { result ≡ row_at version1 self.now.bytes.now (chain_in self.now.bytes.now).states state }
+        ensures value { result ≡ row_at version1 self.now.bytes.now (chain_in self.now.bytes.now).states state }
+        ensures inside { result ≤ length self.now.bytes.now }
     {
         let states = self.count() as usize;
         let offsets = 51 + states;
-        offsets + 4 * states + value_at(self.bytes, 4, offsets + 4 * state as usize) as usize
+        offsets + 4 * states + value_at::<4>(self.bytes, offsets + 4 * state as usize) as usize
     }
 }
 
@@ -91,15 +92,15 @@ impl<'a> Chain for StoredChain<'a> {
     }
 
     fn rates(&self) -> u32 {
-        value_at(self.bytes, 1, 46)
+        value_at::<1>(self.bytes, 46)
     }
 
     fn unit(&self) -> u32 {
-        value_at(self.bytes, 2, 47)
+        value_at::<2>(self.bytes, 47)
     }
 
     fn start(&self) -> u32 {
-        value_at(self.bytes, 2, 49)
+        value_at::<2>(self.bytes, 49)
     }
 
     fn mark(&self, state: u32) -> Result<u8, Refusal> {
@@ -115,8 +116,8 @@ impl<'a> Chain for StoredChain<'a> {
             return Err(Refusal::NoState);
         }
         let at = self.row_place(state);
-        let found = read_row(self.bytes, self.bytes.len(), at, states, self.rates())?;
-        *into = found.row;
+        let mut part = Part::new(self.bytes, Section::Rows, at, self.bytes.len());
+        *into = read_row(&mut part, states, self.rates())?;
         Ok(())
     }
 }

@@ -18,7 +18,7 @@ struct Case<'a> {
 }
 
 // How many cases there are, and how many of them print something else.
-#[derive(Clone, Copy)]
+#[derive(Clone, Copy, Default)]
 struct Tally {
     cases: u64,
     different: u64,
@@ -26,11 +26,10 @@ struct Tally {
 }
 
 // A length of 32 bits, low byte first.
-fn length_at(bytes: &[u8; 12], at: usize) -> usize
-    requires { at + 3 < 12 }
+fn length_of(bytes: [u8; 4]) -> usize
     ensures { result < 2 ^ 32 }
 {
-    u32::from_le_bytes([bytes[at], bytes[at + 1], bytes[at + 2], bytes[at + 3]]) as usize
+    u32::from_le_bytes(bytes) as usize
 }
 
 // The first case of the bytes: three lengths, and then as many bytes each.
@@ -40,15 +39,14 @@ fn first_case<'a>(bytes: &'a [u8]) -> Option<Case<'a>>
     let [a, b, c, d, e, f, g, h, i, j, k, l, bodies @ ..] = bytes else {
         return None;
     };
-    let lengths = [*a, *b, *c, *d, *e, *f, *g, *h, *i, *j, *k, *l];
-    let script = length_at(&lengths, 0);
-    let output = script + length_at(&lengths, 4);
-    let rest = output + length_at(&lengths, 8);
+    let script = length_of([*a, *b, *c, *d]);
+    let output = script + length_of([*e, *f, *g, *h]);
+    let rest = output + length_of([*i, *j, *k, *l]);
     if bodies.len() < rest {
         return None;
     }
     Some(Case {
-        file: &bodies[0..script],
+        file: &bodies[..script],
         script: &bodies[script..output],
         output: &bodies[output..rest],
         rest: &bodies[rest..],
@@ -56,11 +54,7 @@ fn first_case<'a>(bytes: &'a [u8]) -> Option<Case<'a>>
 }
 
 fn replay(heap: Global, bytes: &[u8]) -> Result<Tally, AllocError> {
-    let mut tally = Tally {
-        cases: 0,
-        different: 0,
-        left: 0,
-    };
+    let mut tally = Tally::default();
     let mut rest = bytes;
     while let Some(case) = first_case(rest) {
         let output = map_job(heap, case.file, case.script)?;

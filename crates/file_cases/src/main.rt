@@ -21,11 +21,20 @@ const ROWS_LENGTH: usize = 40;
 const ROWS: usize = 71;
 
 // What opening says. A refusal at the end of the file is told as such, since the end moves from cut to cut.
-#[derive(Clone, Copy, PartialEq)]
+#[derive(Clone, Copy, Debug, PartialEq, Eq)]
 enum Answer {
     Opens,
     AtEnd(u8),
-    Refused(u8, u32),
+    Refused(Refusal),
+}
+
+impl From<Result<(), Refusal>> for Answer {
+    fn from(opened: Result<(), Refusal>) -> Answer {
+        match opened {
+            Ok(()) => Answer::Opens,
+            Err(refusal) => Answer::Refused(refusal),
+        }
+    }
 }
 
 impl fmt::Display for Answer {
@@ -33,30 +42,21 @@ impl fmt::Display for Answer {
         match self {
             Answer::Opens => write!(f, "opens"),
             Answer::AtEnd(number) => write!(f, "refused {number} at the end"),
-            Answer::Refused(number, place) => write!(f, "refused {number} {place}"),
+            Answer::Refused(refusal) => write!(f, "{refusal}"),
         }
-    }
-}
-
-fn refused(refusal: Refusal) -> Answer {
-    Answer::Refused(refusal.number(), refusal.place())
-}
-
-fn answer_of(res: Result<(), Refusal>) -> Answer {
-    match res {
-        Ok(()) => Answer::Opens,
-        Err(refusal) => refused(refusal),
     }
 }
 
 fn open_new(bytes: &[u8]) -> Answer {
     let mut chain = StoredChain::new();
-    answer_of(chain.open(bytes))
+    chain.open(bytes).into()
 }
 
 fn open_cut(bytes: &[u8]) -> Answer {
     match open_new(bytes) {
-        Answer::Refused(number, place) if place as usize == bytes.len() => Answer::AtEnd(number),
+        Answer::Refused(refusal) if refusal.place() as usize == bytes.len() => {
+            Answer::AtEnd(refusal.number())
+        }
         answer => answer,
     }
 }
@@ -64,10 +64,9 @@ fn open_cut(bytes: &[u8]) -> Answer {
 // The answers to the file cut off after 0 bytes, 1 byte and so on.
 fn cuts(heap: Global, bytes: &[u8]) -> Result<Vec<Answer>, AllocError> {
     let mut answers = Vec::new(heap);
-    for length in 0..bytes.len() {
-        answers.push(open_cut(&bytes[0..length]))?;
+    for length in 0..=bytes.len() {
+        answers.push(open_cut(&bytes[..length]))?;
     }
-    answers.push(open_cut(bytes))?;
     Ok(answers)
 }
 
@@ -97,12 +96,10 @@ fn open_rows_cut(bytes: &mut [u8], end: usize) -> Answer
 fn row_cuts(heap: Global, bytes: &mut [u8]) -> Result<Vec<Answer>, AllocError>
     requires { (71 ≤ length bytes.old) × (length bytes.old ≤ 326) }
 {
-    let whole = bytes.len();
     let mut answers = Vec::new(heap);
-    for end in ROWS..whole {
+    for end in ROWS..=bytes.len() {
         answers.push(open_rows_cut(bytes, end))?;
     }
-    answers.push(open_rows_cut(bytes, whole))?;
     Ok(answers)
 }
 
@@ -140,9 +137,8 @@ fn moved_ends(heap: Global, bytes: &mut [u8]) -> Result<Vec<Answer>, AllocError>
 // Each run of equal answers, with the numbers that get it, counted from 0.
 fn print_runs(rt: &HostRuntime, answers: &[Answer]) -> anyhow::Result<()> {
     let mut first = 0;
-    for last in 0..answers.len() {
-        let answer = answers[last];
-        if last + 1 < answers.len() && answers[last + 1] == answer {
+    for (last, answer) in answers.iter().enumerate() {
+        if answers.get(last + 1) == Some(answer) {
             continue;
         }
         if first > 0 {
@@ -209,7 +205,7 @@ fn print_file<C: Chain>(rt: &HostRuntime, chain: &C) -> anyhow::Result<()> {
     println!(rt; "{length} bytes")?;
     print_bytes(rt, file)?;
     let mut stored = StoredChain::new();
-    println!(rt; "{}", answer_of(stored.open(file)))?;
+    println!(rt; "{}", Answer::from(stored.open(file)))?;
     print_written(rt, &stored, file)
 }
 
@@ -231,13 +227,13 @@ fn print_written(rt: &HostRuntime, stored: &StoredChain, bytes: &[u8]) -> anyhow
 fn print_beyond(rt: &HostRuntime, stored: &StoredChain, state: u32) -> anyhow::Result<()> {
     match stored.mark(state) {
         Ok(mark) => println!(rt; "mark {state}: {mark}")?,
-        Err(refusal) => println!(rt; "mark {state}: {}", refused(refusal))?,
+        Err(refusal) => println!(rt; "mark {state}: {refusal}")?,
     }
     let mut row = NO_ROW;
     let _ = stored.row(0, &mut row);
     match stored.row(state, &mut row) {
         Ok(()) => print!(rt; "row {state}: ")?,
-        Err(refusal) => print!(rt; "row {state}: {}, the record keeps ", refused(refusal))?,
+        Err(refusal) => print!(rt; "row {state}: {refusal}, the record keeps ")?,
     }
     println!(rt; "rates {}, edges {}", row.rate_count, row.edge_count)?;
     Ok(())
@@ -246,8 +242,8 @@ fn print_beyond(rt: &HostRuntime, stored: &StoredChain, state: u32) -> anyhow::R
 // Opens chain D's file and then one that is damaged in its first row.
 fn print_kept(rt: &HostRuntime, bytes: &[u8], damaged: &[u8]) -> anyhow::Result<()> {
     let mut stored = StoredChain::new();
-    println!(rt; "{}", answer_of(stored.open(bytes)))?;
-    println!(rt; "then {}", answer_of(stored.open(damaged)))?;
+    println!(rt; "{}", Answer::from(stored.open(bytes)))?;
+    println!(rt; "then {}", Answer::from(stored.open(damaged)))?;
     print_numbers(rt, &stored)?;
     print_written(rt, &stored, bytes)?;
     print_beyond(rt, &stored, 4)

@@ -4,9 +4,9 @@ use Rattle.chain.specs.Chains.{Meaning}
 use Rattle.chain.specs.declared.refusal.Refusal.TheVariants.{TooLong, BadLine}
 use Rattle.chain_format.specs.Reader.{Answer as Read, refused, got}
 use Rattle.chain_format.specs.Format.{File, opened, meaning}
-use Rattle.theory.specs.declared.record.Answer.{Answer}
 use Rattle.theory.specs.Maps.{MapValue, new_map, volumes, no_volumes}
-use Rattle.theory.specs.Runs.{Command, lay_out, cut, show_safe, show_unsafe, count_boxes, find_box, measure, run_from, answers_from}
+use Rattle.theory.specs.Runs.{Answer, run_from, answers_from}
+use Rattle.rate_map.specs.Told.{box_asked}
 use Rattle.sheet.specs.Sheet.{refused_line, answer_line, sheet_bytes}
 use Rattle.script.specs.Grammar.{Said, bad, end, call}
 use Rattle.script.specs.Reading.{script_said, commands, closes}
@@ -15,23 +15,13 @@ use Rattle.script.specs.Reading.{script_said, commands, closes}
 abbrev pub most_bytes : ℕ
 most_bytes = 65536
 
--- the box that a call asks for
-abbrev pub box_of : Command → ℕ
-box_of (lay_out G L sides) = 0
-box_of (cut b r x) = 0
-box_of (show_safe b v) = 0
-box_of (show_unsafe b v w) = 0
-box_of count_boxes = 0
-box_of (find_box b) = b
-box_of measure = 0
-
 -- a line for each line of a script, up to its end: that it has no form, or the answer to its call
 abbrev pub texts : ℕ → List Said → List Answer → List ℕ
 texts rates [] answers = []
 texts rates (bad ∷ ss) answers = refused_line BadLine ++ texts rates ss answers
 texts rates (end ∷ ss) answers = []
 texts rates (call k ∷ ss) [] = []
-texts rates (call k ∷ ss) (a ∷ answers) = answer_line (box_of k) rates a ++ texts rates ss answers
+texts rates (call k ∷ ss) (a ∷ answers) = answer_line (box_asked k) rates a ++ texts rates ss answers
 
 abbrev pub sheet_of : Meaning → MapValue → List ℕ
 sheet_of c m = sheet_bytes c.rates m.boxes (volumes c.rates m.boxes no_volumes)

@@ -2,9 +2,8 @@
 use Rattle.std.specs.Prelude.{◌≡◌, ℕ, ◌≤◌, List, length}
 use Rattle.chain.specs.Chains.{Meaning}
 use Rattle.chain_format.specs.Format.{Opens}
-use Rattle.theory.specs.declared.record.Answer.{Answer}
 use Rattle.theory.specs.Maps.{MapValue, new_map}
-use Rattle.theory.specs.Runs.{run_from, answers_from, as_made, last_laid, Guarantee, Orderly}
+use Rattle.theory.specs.Runs.{Answer, run_from, answers_from, as_made, last_laid, Guarantee, Orderly}
 use Rattle.script.specs.Grammar.{Said, ScriptSays}
 use Rattle.script.specs.Reading.{commands}
 use Rattle.job.specs.Output.{most_bytes, shown}

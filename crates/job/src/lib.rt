@@ -2,7 +2,7 @@
 
 #![tactic(auto)]
 
-ghost use Rattle.std.specs.Prelude.{◌≡◌, ℕ, [], ◌++◌, IfOk, if◌then◌else◌};
+ghost use Rattle.std.specs.Prelude.{◌≡◌, ◌↔◌, ℕ, [], ◌++◌, IsOk, IfOk, IfErr, if◌then◌else◌};
 ghost use Rattle.chain_format.specs.Format.{chain_in};
 ghost use Rattle.sheet.specs.Sheet.{refused_line};
 ghost use Rattle.script.specs.Reading.{script_said};
@@ -20,7 +20,6 @@ use rate_map::run::{Ended, Ran, run};
 use report::{report_answer, report_lines, report_sheet};
 use script::line::Script;
 use std::alloc::{AllocError, Global};
-use theory::record::Answer;
 
 // The most bytes of a chain file and of a script.
 pub const MOST: usize = 65536;
@@ -30,7 +29,7 @@ fn refuse(heap: Global, refusal: Refusal) -> Result<Vec<u8>, AllocError>
     ensures { IfOk result (λ out. out.items ≡ refused_line refusal) }
 {
     let mut out = Vec::new(heap);
-    report_answer(&mut out, 0, 0, &Answer::Refused(refusal))?;
+    report_answer(&mut out, 0, 0, &Err(refusal))?;
     Ok(out)
 }
 
@@ -66,10 +65,25 @@ pub fn map_chain<C: Chain + Drop>(
     let rates = chain.rates();
     let script = Script::read(heap, bytes)?;
     let plan = script.plan(heap, states)?;
-    match run(heap, chain, &plan.calls, plan.close) {
-        Ok(ran) => show(heap, &script, states, rates, &ran),
-        Err(_) => Err(AllocError),
+    let ran = run(heap, chain, &plan.calls, plan.close)?;
+    show(heap, &script, states, rates, &ran)
+}
+
+// The chain of a file, for a script that is not too long. The file is tried first.
+fn open_job<'a>(file: &'a [u8], script: &[u8]) -> Result<StoredChain<'a>, Refusal>
+    ensures runs { IsOk result ↔ Runs file.now script.now }
+    ensures chain { IfOk result (λ chain. chain.bytes.now ≡ file.now) }
+    ensures refused { IfErr result (λ e. refused_line e ≡ job_output file.now script.now) }
+{
+    if file.len() > MOST {
+        return Err(Refusal::TooLong);
     }
+    let mut chain = StoredChain::new();
+    chain.open(file)?;
+    if script.len() > MOST {
+        return Err(Refusal::TooLong);
+    }
+    Ok(chain)
 }
 
 // Runs a script on a map over the chain of a file.
@@ -77,16 +91,8 @@ pub fn map_job(heap: Global, file: &[u8], script: &[u8]) -> Result<Vec<u8>, Allo
     ensures output { IfOk result (λ out. out.items ≡ job_output file.now script.now) }
     ensures promise { IfOk result (λ out. Runs file.now script.now → Mapped (chain_in file.now) script.now out.items) }
 {
-    if file.len() > MOST {
-        return refuse(heap, Refusal::TooLong);
+    match open_job(file, script) {
+        Ok(chain) => map_chain(heap, chain, script),
+        Err(refusal) => refuse(heap, refusal),
     }
-    let mut chain = StoredChain::new();
-    match chain.open(file) {
-        Ok(()) => {}
-        Err(refusal) => return refuse(heap, refusal),
-    }
-    if script.len() > MOST {
-        return refuse(heap, Refusal::TooLong);
-    }
-    map_chain(heap, chain, script)
 }

@@ -1,29 +1,17 @@
 // The lines of the output, added to bytes that grow.
 ghost use Rattle.std.specs.Prelude.{◌≡◌, ℕ, ◌++◌, is_ok, if◌then◌else◌, OnOk};
-ghost use Rattle.rate_map.specs.Told.{command};
-ghost use Rattle.rate_map.specs.Values.{closed_value};
+ghost use Rattle.rate_map.specs.Values.{map_value};
 ghost use Rattle.sheet.specs.Sheet.{answer_line};
 ghost use Rattle.script.specs.Values.{said_by};
-ghost use Rattle.job.specs.Output.{box_of, texts, sheet_of};
+ghost use Rattle.job.specs.Output.{texts, sheet_of};
 
 use chain::interface::Chain;
 use chain::refusal::Refusal;
-use rate_map::call::Call;
 use rate_map::map::ClosedMap;
 use script::line::{Script, Step};
 use sheet::write_answer;
 use std::alloc::{AllocError, Global};
 use theory::record::Answer;
-
-// The box that a call asks for.
-fn box_of(call: &Call) -> u32
-    ensures { result ≡ box_of (command call.now) }
-{
-    match call {
-        Call::Find { number } => *number,
-        _ => 0,
-    }
-}
 
 // The line of an answer.
 pub(crate) fn report_answer(
@@ -51,17 +39,16 @@ pub(crate) fn report_lines(
 ) -> Result<(), AllocError>
     ensures { OnOk result (out.new.items ≡ out.old.items ++ texts rates (said_by states script.now) answers.now) }
 {
-    let mut next = 0;
-    for i in 0..script.len() {
-        match script.step(i, states) {
-            Step::Bad => report_answer(out, 0, rates, &Answer::Refused(Refusal::BadLine))?,
+    let mut answers = answers.iter();
+    for step in script.steps(states) {
+        match step {
+            Step::Bad => report_answer(out, 0, rates, &Err(Refusal::BadLine))?,
             Step::End => return Ok(()),
             Step::Do(call) => {
-                if next >= answers.len() {
+                let Some(answer) = answers.next() else {
                     return Ok(());
-                }
-                report_answer(out, box_of(&call), rates, &answers[next])?;
-                next += 1;
+                };
+                report_answer(out, call.box_asked(), rates, answer)?;
             }
         }
     }
@@ -74,7 +61,7 @@ pub(crate) fn report_sheet<C: Chain>(
     out: &mut Vec<u8>,
     map: &ClosedMap<C>,
 ) -> Result<(), AllocError>
-    ensures { out.new.items ≡ (if is_ok result then out.old.items ++ sheet_of (C.meaning map.now.chain) (closed_value map.now) else out.old.items) }
+    ensures { out.new.items ≡ (if is_ok result then out.old.items ++ sheet_of (C.meaning map.now.chain) (map_value map.now) else out.old.items) }
 {
     let mut page = vec![in heap; 0u8; 30527]?;
     match map.sheet(&mut page) {

@@ -1,22 +1,22 @@
 // The calls that change a map, where they are taken.
-use crate::shown::{BLANK, View, boxed, field, plain, shown, told, whole_field};
+use crate::shown::{BLANK, EXCEEDING, SAFE, View, boxed, field, shown, told, whole_field};
+use chain::interface::Chain;
 use rate_map::map::OpenMap;
 use theory::record::Volumes;
 use theory::verdict::Verdict;
+use witness::judge::safe::SafeWitness;
 use worked::samples::Sample;
 
 // What a cut of rate 0 answers on the field.
-fn cut(place: u32) -> (u8, u32) {
+fn cut(place: u32) -> Result<(), (u8, u32)> {
     let mut map = field(450000);
-    let answer = told(map.split(0, 0, place));
-    let _ = map.into_chain();
-    answer
+    told(map.split(0, 0, place))
 }
 
 #[test]
 fn cuts_between_the_sides(rt: HostRuntime) {
-    assert_eq!(rt; [cut(2), cut(4)], [(0, 0); 2]);
-    assert_eq!(rt; [cut(1), cut(5)], [(11, 0); 2]);
+    assert_eq!(rt; [cut(2), cut(4)], [Ok(()); 2]);
+    assert_eq!(rt; [cut(1), cut(5)], [Err((11, 0)); 2]);
 }
 
 #[test]
@@ -25,11 +25,10 @@ fn lays_out_again(rt: HostRuntime) {
     let before = shown(&map);
     let answer = told(map.lay_out(20, 5, &[0, 20, 3, 4]));
     let after = shown(&map);
-    let _ = map.into_chain();
     let expected = View {
         count: 1,
         first: boxed([0, 20, 3, 4], Verdict::Open),
-        second: plain(BLANK),
+        second: BLANK,
         volumes: Volumes {
             safe: 0,
             exceeding: 0,
@@ -37,7 +36,7 @@ fn lays_out_again(rt: HostRuntime) {
         },
     };
     assert_eq!(rt; before, whole_field());
-    assert_eq!(rt; answer, (0, 0));
+    assert_eq!(rt; answer, Ok(()));
     assert_eq!(rt; after, expected);
 }
 
@@ -46,11 +45,10 @@ fn judges_the_worked_example(rt: HostRuntime) {
     let mut map = field(450000);
     let answers = [
         told(map.split(0, 0, 3)),
-        told(map.safe_witness(0, &[444445])),
-        told(map.safe_witness(1, &[444445, 888889, 1000000, 0])),
+        told(map.witness(0, &SafeWitness { v: &[444445] })),
+        told(map.witness(1, &SAFE)),
     ];
     let after = shown(&map);
-    let _ = map.into_chain();
     let expected = View {
         count: 2,
         first: boxed([1, 3, 2, 6], Verdict::Open),
@@ -61,16 +59,15 @@ fn judges_the_worked_example(rt: HostRuntime) {
             pending: 8,
         },
     };
-    assert_eq!(rt; answers, [(0, 0), (16, 0), (0, 0)]);
+    assert_eq!(rt; answers, [Ok(()), Err((16, 0)), Ok(())]);
     assert_eq!(rt; after, expected);
 }
 
 #[test]
 fn judges_a_box_unsafe(rt: HostRuntime) {
     let mut map = field(40000);
-    let answer = told(map.unsafe_witness(0, &[42500, 425500, 1000000, 0], &[3, 3, 0, 0]));
+    let answer = told(map.witness(0, &EXCEEDING));
     let after = shown(&map);
-    let _ = map.into_chain();
     let expected = View {
         count: 1,
         first: boxed(
@@ -80,26 +77,20 @@ fn judges_a_box_unsafe(rt: HostRuntime) {
                 steps: 1201,
             },
         ),
-        second: plain(BLANK),
+        second: BLANK,
         volumes: Volumes {
             safe: 0,
             exceeding: 16,
             pending: 0,
         },
     };
-    assert_eq!(rt; answer, (0, 0));
+    assert_eq!(rt; answer, Ok(()));
     assert_eq!(rt; after, expected);
 }
 
 // Cuts the last box of a map at 1, 2 .. 127 of rate 0; whether every cut was taken.
 fn cut_often(map: &mut OpenMap<Sample>) -> bool {
-    let mut all = true;
-    for last in 0..127 {
-        if told(map.split(last, 0, last + 1)).0 != 0 {
-            all = false;
-        }
-    }
-    all
+    (0..127).all(|last| map.split(last, 0, last + 1).is_ok())
 }
 
 #[test]
@@ -117,7 +108,6 @@ fn holds_128_boxes(rt: HostRuntime) {
     let after = shown(&map);
     let mut last = BLANK;
     let found = told(map.find(127, &mut last));
-    let _ = map.into_chain();
     let expected = View {
         count: 128,
         first: boxed([0, 1, 0, 1000], Verdict::Open),
@@ -129,9 +119,20 @@ fn holds_128_boxes(rt: HostRuntime) {
         },
     };
     assert!(rt; all);
-    assert_eq!(rt; [laid, found], [(0, 0); 2]);
+    assert_eq!(rt; [laid, found], [Ok(()); 2]);
     assert_eq!(rt; full, expected);
-    assert_eq!(rt; answers, [(12, 0), (12, 0), (11, 0), (9, 0)]);
+    assert_eq!(rt;
+        answers,
+        [Err((12, 0)), Err((12, 0)), Err((11, 0)), Err((9, 0))]
+    );
     assert_eq!(rt; after, expected);
-    assert_eq!(rt; plain(last), boxed([127, 1000, 0, 1000], Verdict::Open));
+    assert_eq!(rt; last, boxed([127, 1000, 0, 1000], Verdict::Open));
+}
+
+#[test]
+fn gives_the_chain_back(rt: HostRuntime) {
+    let open = field(450000);
+    let closed = field(450000).close();
+    let chains = [open.into_chain(), closed.into_chain()];
+    assert_eq!(rt; [chains[0].states(), chains[1].states()], [4; 2]);
 }

@@ -1,55 +1,25 @@
 // Lists of calls, and the maps that they end with.
-use crate::shown::{BLANK, PlainBox, View, boxed, closed_shown, plain, shown};
+use crate::shown::{BLANK, View, boxed, shown, told};
 use rate_map::call::Call;
 use rate_map::run::{Ended, Ran, run};
 use std::alloc::Global;
 use std::test::Fail;
-use theory::record::{Answer, Volumes};
+use theory::record::{Answer, Reply, Volumes};
 use theory::verdict::Verdict;
 use worked::samples::Sample;
-
-// An answer that can be compared.
-#[derive(Clone, Copy, PartialEq, Debug)]
-enum Reply {
-    Done,
-    Refused(u8, u32),
-    Count(u32),
-    Found(PlainBox),
-    Measured(Volumes),
-}
-
-fn said(answer: Answer) -> Reply {
-    match answer {
-        Answer::Done => Reply::Done,
-        Answer::Refused(refusal) => Reply::Refused(refusal.number(), refusal.place()),
-        Answer::Count(count) => Reply::Count(count),
-        Answer::Found(found) => Reply::Found(plain(found)),
-        Answer::Measured(volumes) => Reply::Measured(volumes),
-    }
-}
 
 // Whether the map at the end is closed, and what it shows.
 fn ended(map: Ended<Sample>) -> (bool, View) {
     match map {
-        Ended::Open(map) => {
-            let end = shown(&map);
-            let _ = map.into_chain();
-            (false, end)
-        }
-        Ended::Closed(map) => {
-            let end = closed_shown(&map);
-            let _ = map.into_chain();
-            (true, end)
-        }
+        Ended::Open(map) => (false, shown(&map)),
+        Ended::Closed(map) => (true, shown(&map)),
     }
 }
 
 // What a list of calls on a map over the relay came to: whether the map is closed, what it shows, and the answers.
 fn ran(heap: Global, calls: &[Call], close: bool) -> Result<((bool, View), Vec<Answer>), Fail> {
-    match run(heap, Sample::Relay, calls, close) {
-        Ok(Ran { map, answers }) => Ok((ended(map), answers)),
-        Err(_) => Err(Fail::new("no memory")),
-    }
+    let Ran { map, answers } = run(heap, Sample::Relay, calls, close)?;
+    Ok((ended(map), answers))
 }
 
 // The calls of the worked example.
@@ -94,12 +64,16 @@ fn runs_the_worked_example(rt: HostRuntime) -> Result<(), Fail> {
     assert_eq!(rt; end, (true, expected));
     assert!(rt; answers.len() == 6);
     assert_eq!(rt;
-        [said(answers[0]), said(answers[1]), said(answers[2])],
-        [Reply::Done, Reply::Done, Reply::Refused(16, 0)]
+        [told(answers[0]), told(answers[1]), told(answers[2])],
+        [Ok(Reply::Done), Ok(Reply::Done), Err((16, 0))]
     );
     assert_eq!(rt;
-        [said(answers[3]), said(answers[4]), said(answers[5])],
-        [Reply::Done, Reply::Found(safe), Reply::Measured(volumes)]
+        [told(answers[3]), told(answers[4]), told(answers[5])],
+        [
+            Ok(Reply::Done),
+            Ok(Reply::Found(safe)),
+            Ok(Reply::Measured(volumes))
+        ]
     );
     Ok(())
 }
@@ -116,7 +90,7 @@ fn runs_no_calls(rt: HostRuntime) -> Result<(), Fail> {
     let expected = View {
         count: 1,
         first: boxed([0, 1, 0, 1], Verdict::Open),
-        second: plain(BLANK),
+        second: BLANK,
         volumes,
     };
     assert_eq!(rt; answers.len(), 0);

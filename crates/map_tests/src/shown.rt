@@ -1,10 +1,22 @@
 // What the tests share: maps over the relay to begin with, and what calls answer and maps show as values that can be
 // compared.
 use chain::refusal::Refusal;
-use rate_map::map::{ClosedMap, OpenMap};
+use rate_map::map::{OpenMap, RateMap};
 use theory::record::{BoxRecord, Volumes};
 use theory::verdict::Verdict;
+use witness::judge::exceeding::UnsafeWitness;
+use witness::judge::safe::SafeWitness;
 use worked::samples::Sample;
+
+// A safe and an unsafe witness of the relay.
+pub(crate) const SAFE: SafeWitness<'static> = SafeWitness {
+    v: &[444445, 888889, 1000000, 0],
+};
+
+pub(crate) const EXCEEDING: UnsafeWitness<'static> = UnsafeWitness {
+    v: &[42500, 425500, 1000000, 0],
+    w: &[3, 3, 0, 0],
+};
 
 // A record that no box of the tests is like.
 pub(crate) const BLANK: BoxRecord = BoxRecord {
@@ -13,28 +25,11 @@ pub(crate) const BLANK: BoxRecord = BoxRecord {
     verdict: Verdict::Open,
 };
 
-// A box: its sides in the two rates of the relay, as lay out is given them, the sides of the rates that there are
-// not, and its verdict.
-#[derive(Clone, Copy, PartialEq, Debug)]
-pub(crate) struct PlainBox {
-    pub(crate) sides: [u32; 4],
-    pub(crate) rest: [u32; 4],
-    pub(crate) verdict: Verdict,
-}
-
-pub(crate) fn plain(b: BoxRecord) -> PlainBox {
-    PlainBox {
-        sides: [b.low[0], b.high[0], b.low[1], b.high[1]],
-        rest: [b.low[2], b.high[2], b.low[3], b.high[3]],
-        verdict: b.verdict,
-    }
-}
-
-// A box as a map of the relay has it.
-pub(crate) fn boxed(sides: [u32; 4], verdict: Verdict) -> PlainBox {
-    PlainBox {
-        sides,
-        rest: [0, 0, 0, 0],
+// A box as a map of the relay has it, with its sides in the two rates as lay out is given them.
+pub(crate) fn boxed(sides: [u32; 4], verdict: Verdict) -> BoxRecord {
+    BoxRecord {
+        low: [sides[0], sides[2], 0, 0],
+        high: [sides[1], sides[3], 0, 0],
         verdict,
     }
 }
@@ -43,43 +38,27 @@ pub(crate) fn boxed(sides: [u32; 4], verdict: Verdict) -> PlainBox {
 #[derive(Clone, Copy, PartialEq, Debug)]
 pub(crate) struct View {
     pub(crate) count: u32,
-    pub(crate) first: PlainBox,
-    pub(crate) second: PlainBox,
+    pub(crate) first: BoxRecord,
+    pub(crate) second: BoxRecord,
     pub(crate) volumes: Volumes,
 }
 
-pub(crate) fn shown(map: &OpenMap<Sample>) -> View {
+pub(crate) fn shown<S>(map: &RateMap<Sample, S>) -> View {
     let mut first = BLANK;
     let mut second = BLANK;
     let _ = map.find(0, &mut first);
     let _ = map.find(1, &mut second);
     View {
         count: map.count(),
-        first: plain(first),
-        second: plain(second),
+        first,
+        second,
         volumes: map.measure(),
     }
 }
 
-pub(crate) fn closed_shown(map: &ClosedMap<Sample>) -> View {
-    let mut first = BLANK;
-    let mut second = BLANK;
-    let _ = map.find(0, &mut first);
-    let _ = map.find(1, &mut second);
-    View {
-        count: map.count(),
-        first: plain(first),
-        second: plain(second),
-        volumes: map.measure(),
-    }
-}
-
-// The number and the place of a refusal; zeros where the call was taken.
-pub(crate) fn told(answer: Result<(), Refusal>) -> (u8, u32) {
-    match answer {
-        Ok(()) => (0, 0),
-        Err(refusal) => (refusal.number(), refusal.place()),
-    }
+// An answer, with a refusal as its number and its place.
+pub(crate) fn told<T>(answer: Result<T, Refusal>) -> Result<T, (u8, u32)> {
+    answer.map_err(|refusal| (refusal.number(), refusal.place()))
 }
 
 // A map over the relay on the grid 10, with rate 0 from 1 to 5 and rate 1 from 2 to 6.
@@ -94,7 +73,7 @@ pub(crate) fn whole_field() -> View {
     View {
         count: 1,
         first: boxed([1, 5, 2, 6], Verdict::Open),
-        second: plain(BLANK),
+        second: BLANK,
         volumes: Volumes {
             safe: 0,
             exceeding: 0,

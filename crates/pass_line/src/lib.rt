@@ -11,12 +11,9 @@ mod tests {
     use chain::record::{NO_ROW, RowRecord};
     use chain::refusal::Refusal;
 
-    // The number of a refusal, or 0.
-    fn number(answer: Result<(), Refusal>) -> u8 {
-        match answer {
-            Ok(()) => 0,
-            Err(refusal) => refusal.number(),
-        }
+    // The answer with the number of a refusal.
+    fn number(answer: Result<(), Refusal>) -> Result<(), u8> {
+        answer.map_err(|refusal| refusal.number())
     }
 
     #[test]
@@ -24,8 +21,8 @@ mod tests {
         let mut line = PassLine::new();
         let set = number(line.set(2, 1));
         let refused = [number(line.set(0, 0)), number(line.set(1, 32))];
-        assert_eq!(rt; set, 0);
-        assert_eq!(rt; refused, [14, 14]);
+        assert_eq!(rt; set, Ok(()));
+        assert_eq!(rt; refused, [Err(14), Err(14)]);
         assert_eq!(rt; [line.passes(), line.repeats(), line.states()], [2, 1, 6]);
     }
 
@@ -41,7 +38,7 @@ mod tests {
             number(line.row(1, &mut second)),
             number(line.row(6, &mut second)),
         ];
-        assert_eq!(rt; answers, [0, 0, 0, 13]);
+        assert_eq!(rt; answers, [Ok(()), Ok(()), Ok(()), Err(13)]);
         assert_eq!(rt; successors(&first), [1, 2, 5]);
         assert_eq!(rt; first.edges[0].coefficients, [0, 1, 0, -1, 0, 0, 0, 0]);
         assert_eq!(rt; successors(&second), [2, 5, 0]);

@@ -1,6 +1,4 @@
-pub mod Judged
 pub mod Lists
 pub mod Obeyed
 pub mod Promised
 pub mod Refusals
-pub mod Takes

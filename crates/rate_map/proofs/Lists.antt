@@ -2,9 +2,8 @@
 use Rattle.std.proofs.Common.{◌≡◌, ℕ, ◌+◌, ◌<◌, List, [], ◌∷◌, ◌++◌, map, length, get_or, take, sym, refl, ap, ◌∙◌}
 use Rattle.std.proofs.lemmas.List.{map_more}
 use Rattle.chain.specs.Chains.{Meaning}
-use Rattle.theory.specs.declared.record.Answer.{Answer}
 use Rattle.theory.specs.Maps.{MapValue}
-use Rattle.theory.specs.Runs.{Command, after, answer, run_from, answers_from}
+use Rattle.theory.specs.Runs.{Answer, Command, after, answer, run_from, answers_from}
 
 run_push : (c : Meaning) (m : MapValue) (ks : List Command) (k : Command) → run_from c m (ks ++ k ∷ []) ≡ after c (run_from c m ks) k
 run_push c m [] k = refl

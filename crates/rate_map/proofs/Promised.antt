@@ -1,9 +1,8 @@
 -- What is promised of a list of calls follows from what its map and its answers are.
 use Rattle.std.proofs.Common.{◌≡◌, Bool, List, vec_items, sym, subst}
 use Rattle.chain.specs.Chains.{Meaning, Lawful}
-use Rattle.theory.specs.declared.record.Answer.{Answer}
 use Rattle.theory.specs.Maps.{MapValue, new_map}
-use Rattle.theory.specs.Runs.{Command, run_from, answers_from, as_made, last_laid, Guarantee, Orderly}
+use Rattle.theory.specs.Runs.{Answer, Command, run_from, answers_from, as_made, last_laid, Guarantee, Orderly}
 use Rattle.theory.proofs.Runs.{runs_are_sound}
 use Rattle.rate_map.specs.declared.run.Ran.{Ran}
 use Rattle.rate_map.specs.Promise.{Promised, ended_value, chain_of, is_closed}

@@ -6,12 +6,12 @@ use Rattle.theory.specs.Runs.{Command, run_from, answers_from, as_made, last_lai
 use Rattle.rate_map.specs.declared.run.Ended.{Ended}
 use Rattle.rate_map.specs.declared.run.Ended.TheVariants.{Open, Closed}
 use Rattle.rate_map.specs.declared.run.Ran.{Ran}
-use Rattle.rate_map.specs.Values.{open_value, closed_value}
+use Rattle.rate_map.specs.Values.{map_value}
 
 module _ {C : Type 0} where
   abbrev pub ended_value : Ended C → MapValue
-  ended_value (Open m) = open_value m
-  ended_value (Closed m) = closed_value m
+  ended_value (Open m) = map_value m
+  ended_value (Closed m) = map_value m
 
   abbrev pub chain_of : Ended C → C
   chain_of (Open m) = m.chain

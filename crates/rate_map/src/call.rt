@@ -1,5 +1,8 @@
 // The calls of a map, as a list of them has them.
-#[derive(Clone, Copy)]
+ghost use Rattle.std.specs.Prelude.{◌≡◌};
+ghost use Rattle.rate_map.specs.Told.{command, box_asked};
+
+#[derive(Clone, Copy, Debug, PartialEq, Eq)]
 pub enum Call<'a> {
     LayOut {
         grid: u32,
@@ -25,4 +28,16 @@ pub enum Call<'a> {
         number: u32,
     },
     Measure,
+}
+
+impl Call<'_> {
+    // The box that a call asks for; 0 where it asks for none.
+    pub fn box_asked(&self) -> u32
+        ensures { result ≡ box_asked (command self.now) }
+    {
+        match self {
+            Call::Find { number } => *number,
+            _ => 0,
+        }
+    }
 }

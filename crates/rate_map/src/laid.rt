@@ -3,23 +3,16 @@ ghost use Rattle.std.specs.Prelude.{◌≡◌, ℕ, ◌+◌, ◌*◌, ◌<◌, �
 ghost use Rattle.theory.specs.Maps.{side_at, laid_box, is_open};
 ghost use Rattle.theory.specs.Witness.{at};
 
+use std::array;
 use theory::record::BoxRecord;
 use theory::verdict::Verdict;
 
-fn number_at(sides: &[u32], i: usize) -> u32
-    ensures { result ≡ at sides.now i }
-{
-    if i < sides.len() { sides[i] } else { 0 }
-}
-
 // A side of a box, low (0) or high (1); 0 where there is no such rate.
-fn side_at(rates: u32, sides: &[u32], which: usize, r: u32) -> u32
-    requires rate { r ≤ 3 }
-    requires last { which ≤ 1 }
+fn side_at(rates: u32, sides: &[u32], which: u32, r: usize) -> u32
     ensures { result ≡ side_at rates sides.now which r }
 {
-    if r < rates {
-        number_at(sides, 2 * r as usize + which)
+    if r < rates as usize {
+        sides.get(2 * r + which as usize).copied().unwrap_or(0)
     } else {
         0
     }
@@ -29,21 +22,9 @@ fn side_at(rates: u32, sides: &[u32], which: usize, r: u32) -> u32
 pub(crate) fn laid_box(rates: u32, sides: &[u32]) -> BoxRecord
     ensures { result ≡ laid_box rates sides.now }
 {
-    let low = [
-        side_at(rates, sides, 0, 0),
-        side_at(rates, sides, 0, 1),
-        side_at(rates, sides, 0, 2),
-        side_at(rates, sides, 0, 3),
-    ];
-    let high = [
-        side_at(rates, sides, 1, 0),
-        side_at(rates, sides, 1, 1),
-        side_at(rates, sides, 1, 2),
-        side_at(rates, sides, 1, 3),
-    ];
     BoxRecord {
-        low,
-        high,
+        low: array::from_fn(|r| side_at(rates, sides, 0, r)),
+        high: array::from_fn(|r| side_at(rates, sides, 1, r)),
         verdict: Verdict::Open,
     }
 }
@@ -51,11 +32,7 @@ pub(crate) fn laid_box(rates: u32, sides: &[u32]) -> BoxRecord
 pub(crate) fn is_open(verdict: Verdict) -> bool
     ensures { result ≡ is_open verdict }
 {
-    match verdict {
-        Verdict::Open => true,
-        Verdict::Safe { bound: _ } => false,
-        Verdict::Unsafe { bound: _, steps: _ } => false,
-    }
+    matches!(verdict, Verdict::Open)
 }
 
 // Whether a box can be cut at a place of a rate.

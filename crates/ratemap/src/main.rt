@@ -7,10 +7,10 @@ use chain::interface::Chain;
 use pass_line::line::PassLine;
 use rate_map::call::Call;
 use rate_map::map::ClosedMap;
-use rate_map::run::{Ended, run};
+use rate_map::run::{Ended, Ran, run};
 use sheet::write_box;
 use std::io::Write;
-use theory::record::Answer;
+use theory::record::{Answer, BoxRecord, Reply};
 
 // A pass jams at 5 to 45 of 100, and a remake is late at 20 to 60 of 100.
 const FIELD: [u32; 4] = [5, 45, 20, 60];
@@ -32,43 +32,35 @@ const OFTEN: [u32; 11] = [
 
 const ROUNDS: [u32; 11] = [5, 5, 4, 4, 4, 3, 2, 2, 1, 0, 0];
 
-// The box that a call asks for.
-fn asked(call: &Call) -> u32 {
-    match call {
-        Call::Find { number } => *number,
-        _ => 0,
-    }
-}
-
-fn print_answer(rt: &HostRuntime, call: &Call, rates: u32, answer: Answer) -> anyhow::Result<()> {
+fn print_answer(rt: &HostRuntime, call: &Call, rates: u32, answer: &Answer) -> anyhow::Result<()> {
     match answer {
-        Answer::Done => println!(rt; "ok")?,
-        Answer::Refused(e) => println!(rt; "refused {} {}", e.number(), e.place())?,
-        Answer::Count(n) => println!(rt; "{n} boxes")?,
-        Answer::Found(b) => {
-            let mut line = [0u8; 128];
-            match write_box(asked(call), rates, &b, &mut line) {
-                Ok(n) => rt.stdout().write_all(&line[0..n])?,
-                Err(_) => return Err(anyhow!("no room for a line")),
-            }
-        }
-        Answer::Measured(v) => println!(rt;
+        Ok(Reply::Done) => println!(rt; "ok")?,
+        Ok(Reply::Count(n)) => println!(rt; "{n} boxes")?,
+        Ok(Reply::Found(b)) => print_box(rt, call.box_asked(), rates, b)?,
+        Ok(Reply::Measured(v)) => println!(rt;
             "safe {}, unsafe {}, open {}",
             v.safe, v.exceeding, v.pending
         )?,
+        Err(refusal) => println!(rt; "{refusal}")?,
     }
     Ok(())
 }
 
+fn print_box(rt: &HostRuntime, number: u32, rates: u32, b: &BoxRecord) -> anyhow::Result<()> {
+    let mut line = [0u8; 128];
+    let Ok(length) = write_box(number, rates, b, &mut line) else {
+        return Err(anyhow!("no room for a line"));
+    };
+    rt.stdout().write_all(&line[..length])?;
+    Ok(())
+}
+
 fn print_sheet(rt: &HostRuntime, map: &ClosedMap<PassLine>) -> anyhow::Result<()> {
-    let mut bytes = vec![in rt.alloc(); 0u8; 16384]?;
-    match map.sheet(&mut bytes) {
-        Ok(n) => match bytes.get(0..n) {
-            Some(text) => rt.stdout().write_all(text)?,
-            None => return Err(anyhow!("no room for the sheet")),
-        },
-        Err(_) => return Err(anyhow!("no room for the sheet")),
-    }
+    let mut page = vec![in rt.alloc(); 0u8; 16384]?;
+    let Ok(length) = map.sheet(&mut page) else {
+        return Err(anyhow!("no room for the sheet"));
+    };
+    rt.stdout().write_all(&page[..length])?;
     Ok(())
 }
 
@@ -127,16 +119,14 @@ fn main(rt: HostRuntime) -> anyhow::Result<()> {
         Call::Find { number: 2 },
         Call::Measure,
     ];
-    match run(rt.alloc(), line, &calls, true) {
-        Ok(ran) => {
-            for (call, answer) in calls.iter().zip(ran.answers.iter()) {
-                print_answer(&rt, call, rates, *answer)?;
-            }
-            match ran.map {
-                Ended::Open(_) => Ok(()),
-                Ended::Closed(map) => print_sheet(&rt, &map),
-            }
-        }
-        Err(_) => Err(anyhow!("no memory for the answers")),
+    let Ok(Ran { map, answers }) = run(rt.alloc(), line, &calls, true) else {
+        return Err(anyhow!("no memory for the answers"));
+    };
+    for (call, answer) in calls.iter().zip(&answers) {
+        print_answer(&rt, call, rates, answer)?;
+    }
+    match map {
+        Ended::Open(_) => Ok(()),
+        Ended::Closed(map) => print_sheet(&rt, &map),
     }
 }

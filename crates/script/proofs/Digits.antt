@@ -1,51 +1,49 @@
--- The numbers of a line, read byte by byte.
-use Rattle.std.proofs.Common.{◌≡◌, ℕ, ◌+◌, ◌-◌, ◌*◌, ◌^◌, ◌<◌, ◌≤◌, Bool, true, false, ◌&&◌, eqb, ltb, leb, ◌⊎◌, List, [], ◌∷◌, ◌++◌, length, get_or, drop, Some, None, Option, sym, refl, ap, ◌∙◌, inl, inr, ⊎_elim, arith}
+-- The numbers of a line: its text between spaces.
+use Rattle.std.proofs.Common.{◌≡◌, ℕ, suc, ◌+◌, ◌-◌, ◌*◌, ◌^◌, ◌<◌, ◌≤◌, Bool, true, false, cond, ◌&&◌, eqb, leb, List, [], ◌∷◌, ◌++◌, length, get_or, take, drop, Some, None, Option, sym, refl, ap, ◌∙◌, ⊎_elim, lit<, arith}
 use Rattle.std.specs.Option.{option_map}
-use Rattle.std.proofs.lemmas.List.{append_assoc, at_drop_more, at_drop_all}
-use Rattle.std.proofs.lemmas.Bool.{cases_Bool, cond-true, cond-false, and_left, and_right, lt-leb, le-ltb, eqb-true, ltb-true, and_parts, ne_eqb}
-use Rattle.script.specs.Reading.{digit, fit, kept, within, numbers_in}
-use Rattle.script.specs.Values.{Adds}
+use Rattle.std.specs.List.{list_all, slice_split, onto_first}
+use Rattle.std.proofs.lemmas.List.{append_assoc, append-nil, take_more, at_drop_more, at_drop_all}
+use Rattle.std.proofs.lemmas.List.Splits.{length-slice_split, slice_split-cons_yes, slice_split-cons_no}
+use Rattle.std.proofs.lemmas.List.Folds.{list_all_more}
+use Rattle.std.proofs.lemmas.Grind.{pow_more}
+use Rattle.std.proofs.lemmas.Bool.{cases_Bool, cond-true, cond-false, eqb-true, leb-true, and_parts, and_from}
+use Rattle.script.specs.Grammar.{value_of}
+use Rattle.script.specs.Reading.{digit, fit, kept, within}
+use Rattle.script.specs.Values.{number_in}
 
--- numbers in front of those of an answer
-abbrev pub onto : List ℕ → Option (List ℕ) → Option (List ℕ)
-onto ns None = None
-onto ns (Some ms) = Some (ns ++ ms)
+-- ---- the digits of a number, one by one
+value_of-append : (n : ℕ) (xs ys : List ℕ) → value_of n (xs ++ ys) ≡ value_of (value_of n xs) ys
+value_of-append n [] ys = refl
+value_of-append n (x ∷ xs) ys = value_of-append (10 * n + (x - 48)) xs ys
 
-pub onto_nil : (o : Option (List ℕ)) → o ≡ onto [] o
-onto_nil None = refl
-onto_nil (Some ms) = refl
+-- the first bytes of a text, so many, are digits, and make the number
+pub record Digits (text : List ℕ) (count n : ℕ) : Type 0 where
+  pub digits : list_all digit (take count text) ≡ true
+  pub value : n ≡ value_of 0 (take count text)
+  pub small : n < 10 ^ count
 
-pub onto_more : (ns : List ℕ) (n : ℕ) (o : Option (List ℕ)) → onto ns (option_map (λ ms. n ∷ ms) o) ≡ onto (ns ++ n ∷ []) o
-onto_more ns n None = refl
-onto_more ns n (Some ms) = ap (λ t. Some t) (sym (append_assoc ns (n ∷ []) ms))
+pub digits_none : (text : List ℕ) → Digits text 0 0
+digits_none text = record { digits = refl; value = refl; small = lit< tt }
 
--- too many digits, or too large a number, never become a number
-abbrev pub Doomed : ℕ → ℕ → Type 0
-Doomed count n = (10 < count) ⊎ (2 ^ 32 ≤ n)
+pub digits_more : {text : List ℕ} {count n : ℕ} (d : ℕ) → Digits text count n → count < length text → digit (get_or text count 0) ≡ true → d ≡ get_or text count 0 - 48
+    → Digits text (count + 1) (10 * n + d)
+digits_more {text = text} {count = count} {n = n} d h l e f =
+    let p = and_parts (leb 48 (get_or text count 0)) (leb (get_or text count 0) 57) e in
+    let ten : 10 ^ (count + 1) ≡ 10 ^ count * 10 = pow_more 10 count in
+    record {
+      digits = list_all_more digit text count 0 l ∙ and_from _ _ h.digits e;
+      value = ap (λ m. 10 * m + d) h.value ∙ ap (λ m. 10 * value_of 0 (take count text) + m) f
+          ∙ sym (ap (value_of 0) (take_more text count 0 l) ∙ value_of-append 0 (take count text) (get_or text count 0 ∷ []));
+      small = omega (arith, h.small, leb-true (get_or text count 0) 57 p.1);
+    }
 
-pub doomed_unfit : (count n : ℕ) → Doomed count n → fit count n ≡ false
-doomed_unfit count n d =
-    ⊎_elim (λ h. and_left (leb 1 count && leb count 10) _ (and_right (leb 1 count) _ (lt-leb count 10 h))) (λ h. and_right (leb 1 count && leb count 10) _ (le-ltb n (2 ^ 32) h)) d
-
-pub doomed_more : (count n d : ℕ) → Doomed count n → Doomed (count + 1) (10 * n + d)
-doomed_more count n d h = ⊎_elim (λ l. inl (omega arith)) (λ l. inr (omega arith)) h
+-- ---- one byte more
+pub kept-fit : (count n : ℕ) (more : Option (List ℕ)) → fit count n ≡ true → kept count n more ≡ option_map (λ ns. n ∷ ns) more
+kept-fit count n more e = cond-true (fit count n) _ _ e
 
 pub unfit_none : (count n : ℕ) (more : Option (List ℕ)) → fit count n ≡ false → kept count n more ≡ None
 unfit_none count n more e = cond-false (fit count n) _ _ e
 
-pub doomed_none : (count n : ℕ) (bs : List ℕ) → Doomed count n → within count n bs ≡ None
-unfolding within
-doomed_none count n [] d = unfit_none count n (Some []) (doomed_unfit count n d)
-doomed_none count n (b ∷ bs) d =
-    ⊎_elim
-    (λ e. cond-true (digit b) _ _ e ∙ doomed_none (count + 1) (10 * n + (b - 48)) bs (doomed_more count n (b - 48) d))
-    (λ e. cond-false (digit b) _ _ e ∙ ⊎_elim
-    (λ s. cond-true (eqb b 32) _ _ s ∙ unfit_none count n (within 0 0 bs) (doomed_unfit count n d))
-    (λ s. cond-false (eqb b 32) _ _ s)
-    (cases_Bool (eqb b 32)))
-    (cases_Bool (digit b))
-
--- ---- one byte more
 pub at-digit : (count n b : ℕ) (bs : List ℕ) → digit b ≡ true → within count n (b ∷ bs) ≡ within (count + 1) (10 * n + (b - 48)) bs
 unfolding within
 at-digit count n b bs e = cond-true (digit b) _ _ e
@@ -65,66 +63,104 @@ pub at-end : (count n : ℕ) → within count n [] ≡ kept count n (Some [])
 unfolding within
 at-end count n = refl
 
-pub kept-fit : (count n : ℕ) (more : Option (List ℕ)) → fit count n ≡ true → kept count n more ≡ option_map (λ ns. n ∷ ns) more
-kept-fit count n more e = cond-true (fit count n) _ _ e
+-- ---- the texts between spaces
+abbrev pub space : ℕ → Bool
+space b = eqb b 32
 
--- ---- the loop over the bytes: ns are the numbers so far, and within one so many digits make n
-pub record Reached (text ns : List ℕ) (count n i : ℕ) : Type 0 where
-  pub left : within 0 0 text ≡ onto ns (within count n (drop i text))
+-- a number in front of numbers, where there are both
+abbrev pub in_front : Option ℕ → Option (List ℕ) → Option (List ℕ)
+in_front None more = None
+in_front (Some n) more = option_map (λ ns. n ∷ ns) more
 
-pub stuck : {text ns : List ℕ} {count n i : ℕ} → Reached text ns count n i → within count n (drop i text) ≡ None → within 0 0 text ≡ None
-stuck {ns = ns} r e = r.left ∙ ap (onto ns) e
+-- the numbers that some texts are
+abbrev pub numbers_of : List (List ℕ) → Option (List ℕ)
+numbers_of [] = Some []
+numbers_of (ds ∷ parts) = in_front (number_in ds) (numbers_of parts)
 
-here : (text : List ℕ) (count n i : ℕ) → i < length text → within count n (drop i text) ≡ within count n (get_or text i 0 ∷ drop (i + 1) text)
-here text count n i l = at_drop_more (within count n) text i 0 l
+-- the number that a text is behind so many digits, which make n
+abbrev number_from : ℕ → ℕ → List ℕ → Option ℕ
+number_from count n ds = cond (list_all digit ds && fit (count + length ds) (value_of n ds)) (Some (value_of n ds)) None
 
-pub stuck_digit : {text ns : List ℕ} {count n i : ℕ} → Reached text ns count n i → i < length text → digit (get_or text i 0) ≡ true → (10 ≤ count) ⊎ (2 ^ 32 ≤ n)
-    → within 0 0 text ≡ None
-stuck_digit {text = text} {count = count} {n = n} {i = i} r l e d =
-    stuck r (here text count n i l ∙ at-digit count n _ _ e ∙ doomed_none _ _ _ (⊎_elim (λ h. inl (omega arith)) (λ h. inr (omega arith)) d))
+-- the same, where the first text stands behind so many digits, which make n
+abbrev numbers_from : ℕ → ℕ → List (List ℕ) → Option (List ℕ)
+numbers_from count n [] = None
+numbers_from count n (ds ∷ parts) = in_front (number_from count n ds) (numbers_of parts)
 
-pub next_digit : {text ns : List ℕ} {count n i : ℕ} → Reached text ns count n i → i < length text → digit (get_or text i 0) ≡ true
-    → Reached text ns (count + 1) (10 * n + (get_or text i 0 - 48)) (i + 1)
-next_digit {text = text} {ns = ns} {count = count} {n = n} {i = i} r l e =
-    record { left = r.left ∙ ap (onto ns) (here text count n i l ∙ at-digit count n _ _ e) }
+from_first : (ds : List ℕ) (parts : List (List ℕ)) → numbers_from 0 0 (ds ∷ parts) ≡ numbers_of (ds ∷ parts)
+from_first ds parts = let z : 0 + length ds ≡ length ds = omega arith in rw z refl
 
-pub stuck_other : {text ns : List ℕ} {count n i : ℕ} → Reached text ns count n i → i < length text → digit (get_or text i 0) ≡ false
-    → (get_or text i 0 ≡ 32 → ⊥) ⊎ (fit count n ≡ false) → within 0 0 text ≡ None
-stuck_other {text = text} {count = count} {n = n} {i = i} r l e d =
-    stuck r (here text count n i l ∙ ⊎_elim
-    (λ s. at_space_as count n (get_or text i 0) (drop (i + 1) text) (eqb-true (get_or text i 0) 32 s) ∙ ⊎_elim (λ h. absurd (h (eqb-true (get_or text i 0) 32 s))) (λ f. unfit_none count n _ f) d)
-    (λ s. at_other count n _ _ e s)
-    (cases_Bool (eqb (get_or text i 0) 32)))
+none_from : (count n : ℕ) (more : Option (List ℕ)) → in_front (number_from count n []) more ≡ kept count n more
+none_from count n more = let z : count + 0 ≡ count = omega arith in rw z (by (fit count n))
+  where
+    by : (b : Bool) → in_front (cond b (Some n) None) more ≡ cond b (option_map (λ ns. n ∷ ns) more) None
+    by true = refl
+    by false = refl
 
-pub next_space : {text ns : List ℕ} {count n i : ℕ} → Reached text ns count n i → i < length text → get_or text i 0 ≡ 32 → fit count n ≡ true
-    → Reached text (ns ++ n ∷ []) 0 0 (i + 1)
-next_space {text = text} {ns = ns} {count = count} {n = n} {i = i} r l s f =
-    record { left = r.left ∙ ap (onto ns) (here text count n i l ∙ at_space_as count n (get_or text i 0) (drop (i + 1) text) s ∙ kept-fit count n _ f) ∙ onto_more ns n _ }
+digit_from : (count n b : ℕ) (parts : List (List ℕ)) → 0 < length parts → digit b ≡ true → numbers_from count n (onto_first b parts) ≡ numbers_from (count + 1) (10 * n + (b - 48)) parts
+digit_from count n b [] l e = absurd (omega arith)
+digit_from count n b (ds ∷ parts) l e = let z : count + suc (length ds) ≡ count + 1 + length ds = omega arith in rw (e, z) refl
 
-pub stuck_end : {text ns : List ℕ} {count n i : ℕ} → Reached text ns count n i → length text ≤ i → fit count n ≡ false → within 0 0 text ≡ None
-stuck_end {text = text} {count = count} {n = n} {i = i} r l f = stuck r (at_drop_all (within count n) text i l ∙ at-end count n ∙ unfit_none count n (Some []) f)
+other_from : (count n b : ℕ) (parts : List (List ℕ)) → 0 < length parts → digit b ≡ false → numbers_from count n (onto_first b parts) ≡ None
+other_from count n b [] l e = absurd (omega arith)
+other_from count n b (ds ∷ parts) l e = rw e refl
 
-pub read_end : {text ns : List ℕ} {count n i : ℕ} → Reached text ns count n i → length text ≤ i → fit count n ≡ true → within 0 0 text ≡ Some (ns ++ n ∷ [])
-read_end {text = text} {ns = ns} {count = count} {n = n} {i = i} r l f =
-    r.left ∙ ap (onto ns) (at_drop_all (within count n) text i l ∙ at-end count n ∙ kept-fit count n (Some []) f)
+some_parts : (bs : List ℕ) → 0 < length (slice_split space bs)
+some_parts bs = omega (arith, length-slice_split space bs)
 
-pub reached_none : (text : List ℕ) → Reached text [] 0 0 0
-reached_none text = record { left = onto_nil (within 0 0 text) }
+whole_from : (parts : List (List ℕ)) → 0 < length parts → numbers_from 0 0 parts ≡ numbers_of parts
+whole_from [] l = absurd (omega arith)
+whole_from (ds ∷ parts) l = from_first ds parts
 
-pub fit_small : (count n : ℕ) → fit count n ≡ true → n < 2 ^ 32
-fit_small count n e = ltb-true n (2 ^ 32) (and_parts (leb 1 count && leb count 10) (ltb n (2 ^ 32)) e).1
+split_from : (count n : ℕ) (bs : List ℕ) → within count n bs ≡ numbers_from count n (slice_split space bs)
+split_from count n [] = at-end count n ∙ sym (none_from count n (Some []))
+split_from count n (b ∷ bs) =
+    ⊎_elim
+    (λ s.
+    let more : within 0 0 bs ≡ numbers_of (slice_split space bs) = split_from 0 0 bs ∙ whole_from _ (some_parts bs) in
+    at_space_as count n b bs (eqb-true b 32 s) ∙ ap (kept count n) more ∙ sym (none_from count n _) ∙ sym (ap (numbers_from count n) (slice_split-cons_yes space b bs s)))
+    (λ s. ⊎_elim
+    (λ d.
+    at-digit count n b bs d ∙ split_from (count + 1) (10 * n + (b - 48)) bs ∙ sym (digit_from count n b _ (some_parts bs) d) ∙ sym (ap (numbers_from count n) (slice_split-cons_no space b bs s)))
+    (λ d. at_other count n b bs d s ∙ sym (other_from count n b _ (some_parts bs) d) ∙ sym (ap (numbers_from count n) (slice_split-cons_no space b bs s)))
+    (cases_Bool (digit b)))
+    (cases_Bool (eqb b 32))
 
-pub reached_at : {text ns : List ℕ} {count n i count' n' : ℕ} → count' ≡ count → n' ≡ n → Reached text ns count n i → Reached text ns count' n' i
-reached_at e f r = rw (e, f) r
+-- the numbers of a text are those of its texts between spaces
+pub split_numbers : (text : List ℕ) → within 0 0 text ≡ numbers_of (slice_split space text)
+split_numbers text = split_from 0 0 text ∙ whole_from _ (some_parts text)
 
--- behind the first space
-pub numbers-spaced : (text rest : List ℕ) → text ≡ 32 ∷ rest → numbers_in text ≡ within 0 0 rest
-numbers-spaced text rest e = ap numbers_in e
+-- ---- the loop over those texts: after i of them the numbers so far are ns
+abbrev pub onto : List ℕ → Option (List ℕ) → Option (List ℕ)
+onto ns None = None
+onto ns (Some ms) = Some (ns ++ ms)
 
-pub numbers_unspaced : (text : List ℕ) → 0 < length text → (get_or text 0 0 ≡ 32 → ⊥) → numbers_in text ≡ None
-numbers_unspaced [] l h = absurd (omega arith)
-numbers_unspaced (b ∷ bs) l h = cond-false (eqb b 32) _ _ (ne_eqb b 32 h)
+pub record Reached (parts : List (List ℕ)) (ns : List ℕ) (i : ℕ) : Type 0 where
+  pub left : numbers_of parts ≡ onto ns (numbers_of (drop i parts))
 
-pub adds_like : {found found' : Option (List ℕ)} (before after : List ℕ) (well : Bool) → found ≡ found' → Adds well found before after → Adds well found' before after
-adds_like before after true e h = (h.0, sym e ∙ h.1, h.2)
-adds_like before after false e h = (h.0, sym e ∙ h.1, h.2)
+pub reached_none : (parts : List (List ℕ)) → Reached parts [] 0
+reached_none parts = record { left = by (numbers_of parts) }
+  where
+    by : (o : Option (List ℕ)) → o ≡ onto [] o
+    by None = refl
+    by (Some ms) = refl
+
+module _ {parts : List (List ℕ)} {ns : List ℕ} {i : ℕ} (ds : List ℕ) where
+  here : Reached parts ns i → (i < length parts) × (ds ≡ get_or parts i ds) → (o : Option ℕ) → o ≡ number_in ds → numbers_of parts ≡ onto ns (in_front o (numbers_of (drop (i + 1) parts)))
+  here r t o e =
+      r.left ∙ ap (onto ns) (at_drop_more numbers_of parts i ds t.0 ∙ ap (λ x. in_front x (numbers_of (drop (i + 1) parts))) (ap number_in (sym t.1) ∙ sym e))
+
+  pub stuck : Reached parts ns i → (i < length parts) × (ds ≡ get_or parts i ds) → None ≡ number_in ds → numbers_of parts ≡ None
+  stuck r t e = here r t None e
+
+  pub reached_more : (n : ℕ) → Reached parts ns i → (i < length parts) × (ds ≡ get_or parts i ds) → Some n ≡ number_in ds → Reached parts (ns ++ n ∷ []) (i + 1)
+  reached_more n r t e = record { left = here r t (Some n) e ∙ by (numbers_of (drop (i + 1) parts)) }
+    where
+      by : (o : Option (List ℕ)) → onto ns (option_map (λ ms. n ∷ ms) o) ≡ onto (ns ++ n ∷ []) o
+      by None = refl
+      by (Some ms) = ap (λ t. Some t) (sym (append_assoc ns (n ∷ []) ms))
+
+pub reached_all : {parts : List (List ℕ)} {ns : List ℕ} {i : ℕ} → Reached parts ns i → length parts ≤ i → numbers_of parts ≡ Some ns
+reached_all {parts = parts} {ns = ns} {i = i} r l = r.left ∙ ap (onto ns) (at_drop_all numbers_of parts i l) ∙ ap (λ t. Some t) (append-nil ns)
+
+pub reached_as : {parts : List (List ℕ)} {ns ms : List ℕ} {i k : ℕ} → ms ≡ ns → k ≡ i → Reached parts ns i → Reached parts ms k
+reached_as e f r = rw (e, f) r

@@ -1,14 +1,20 @@
--- The lines of a script, and lines whose numbers stand among the numbers of the script.
-use Rattle.std.proofs.Common.{◌≡◌, ℕ, zero, suc, ◌+◌, ◌-◌, ◌<◌, ◌≤◌, Bool, true, false, ◌&&◌, eqb, leb, List, [], ◌∷◌, ◌++◌, map, length, get_or, take, drop, vec_items, Option, sym, refl, ap, ◌∙◌, ⊎_elim, arith}
-use Rattle.std.specs.List.{AllByRecursion}
-use Rattle.std.proofs.lemmas.List.{append-nil, append_assoc, length-append, map-append, drop-append-le, take-append-le, length-drop, drop_at, take_all, get_or_past, get_or-map, length-map}
-use Rattle.std.proofs.lemmas.Bool.{cases_Bool, cond-true, cond-false, eq-eqb, ne_eqb, le-leb, leb-true, and_from, and_left}
-use Rattle.script.specs.Grammar.{bad}
-use Rattle.script.specs.Reading.{said, spelling, numbers_in, line_said, on_first, lines_of}
-use Rattle.script.specs.Values.{said_in, line_count, said_by, Placed, LineRead, Adds}
-use Rattle.script.specs.declared.line.Script.{Script}
+-- The lines of a script.
+use Rattle.std.proofs.Common.{◌≡◌, ℕ, zero, suc, ◌+◌, ◌-◌, ◌<◌, ◌≤◌, min, Bool, cond, eqb, List, [], ◌∷◌, ◌++◌, map, length, get_or, take, drop, Option, sym, refl, ap, ◌∙◌, subst, ⊎_elim, arith}
+use Rattle.std.specs.Borrow.{Bor}
+use Rattle.std.specs.Fn.{ComputesKey, CalledAt}
+use Rattle.std.specs.List.{IsFirstMatchOrLen}
+use Rattle.std.specs.Option.{MatchOption}
+use Rattle.std.specs.Slice.Iter.{split_inclusive_rest, split_inclusive_callee}
+use Rattle.std.specs.declared.slice.SplitInclusive.{SplitInclusive}
+use Rattle.std.proofs.lemmas.Bool.{cond-true, cond-false, eq-eqb, ne_eqb, eqb-true, eqb-false, cases_lt}
+use Rattle.std.proofs.lemmas.Fn.{always_returns_same}
+use Rattle.std.proofs.lemmas.Iterator.{YieldsList}
+use Rattle.std.proofs.lemmas.Iterator.Splits.{YieldsList-from_shown_while}
+use Rattle.std.proofs.lemmas.List.{take_at, drop_at, take_all, drop_all, take-take, get_or-take, get_or_past, nil_from_length, map_push, map_more}
+use Rattle.script.specs.Reading.{line_said, on_first, lines_of}
+use Rattle.script.specs.Values.{without_break, line_said_by}
 use Rattle.script.specs.declared.line.Line.{Line}
-use Rattle.script.specs.declared.line.Line.TheVariants.{Malformed, Spelled}
+use denote.Param.Members.{Mut}
 
 -- ---- the first line of a text
 pub lines_nil : lines_of [] ≡ []
@@ -23,7 +29,7 @@ pub no_break : (b : ℕ) (bs : List ℕ) → (b ≡ 10 → ⊥) → lines_of (b 
 unfolding lines_of
 no_break b bs h = cond-false (eqb b 10) _ _ (ne_eqb b 10 h)
 
-pub lines_next : (text : List ℕ) (k : ℕ) → 0 < length text → k ≤ length text → ((i : ℕ) → i < k → get_or text i 0 ≡ 10 → ⊥) → (k < length text → get_or text k 0 ≡ 10)
+lines_next : (text : List ℕ) (k : ℕ) → 0 < length text → k ≤ length text → ((i : ℕ) → i < k → get_or text i 0 ≡ 10 → ⊥) → (k < length text → get_or text k 0 ≡ 10)
     → lines_of text ≡ take k text ∷ lines_of (drop (k + 1) text)
 lines_next [] k some l before found = absurd (omega arith)
 lines_next (b ∷ bs) zero some l before found = break_here b bs (found (omega arith))
@@ -35,105 +41,73 @@ lines_next (b ∷ x ∷ bs) (suc k) some l before found =
     let more = lines_next (x ∷ bs) k (omega arith) (omega arith) (λ i h. before (suc i) (omega arith)) (λ h. found (omega arith)) in
     rw e (no_break b (x ∷ bs) (before 0 (omega arith)) ∙ ap (on_first b) more)
 
--- ---- lines in a list of numbers that grows
-pub said_grown : (n : ℕ) (numbers more : List ℕ) (line : Line) → Placed numbers line → said_in n (numbers ++ more) line ≡ said_in n numbers line
-said_grown n numbers more Malformed p = refl
-said_grown n numbers more (Spelled letter from to) p =
-    let longer : length (numbers ++ more) ≡ length numbers + length more = length-append numbers more in
-    let was = le-leb to (length numbers) p in
-    let is : leb to (length (numbers ++ more)) ≡ true = le-leb to _ (omega arith) in
-    ⊎_elim
-    (λ e.
-    let h : from ≤ to = leb-true from to e in
-    let l : length (drop from numbers) ≡ length numbers - from = length-drop from numbers in
-    let same : take (to - from) (drop from (numbers ++ more)) ≡ take (to - from) (drop from numbers) =
-    ap (take (to - from)) (drop-append-le from numbers more (omega arith)) ∙ take-append-le (to - from) (drop from numbers) more (omega arith) in
-    cond-true (leb from to && leb to (length (numbers ++ more))) _ _ (and_from _ _ e is) ∙ ap (said n letter) same
-    ∙ sym (cond-true (leb from to && leb to (length numbers)) _ _ (and_from _ _ e was)))
-    (λ e. cond-false _ _ _ (and_left (leb from to) _ e) ∙ sym (cond-false _ _ _ (and_left (leb from to) _ e)))
-    (cases_Bool (leb from to))
+-- ---- the texts between breaks, each with the byte 10 behind it
+-- what `next` gives of them, in the words of its trait
+abbrev pub pieces_steps : {F : Type 0} → Mut F (Bor ℕ × Unit {0}) Bool → SplitInclusive ℕ F → Option (Bor (List ℕ)) → SplitInclusive ℕ F → Type 0
+pieces_steps g s r t =
+    MatchOption r ((length (split_inclusive_rest s) ≡ 0) × (t ≡ s))
+    (λ x. (split_inclusive_rest s ≡ x.now ++ split_inclusive_rest t)
+    × ((i : ℕ) × (length x.now ≡ min (i + 1) (length (split_inclusive_rest s)))
+    × ((p : ℕ → Bool) → ComputesKey g p (split_inclusive_callee s) → ComputesKey g p (split_inclusive_callee t) × IsFirstMatchOrLen p (split_inclusive_rest s) i))
+    × (0 < length (split_inclusive_rest s)))
 
-placed_grown : (numbers more : List ℕ) (line : Line) → Placed numbers line → Placed (numbers ++ more) line
-placed_grown numbers more Malformed p = tt
-placed_grown numbers more (Spelled letter from to) p = omega (arith, length-append numbers more)
+-- the first of them, which ends at the first byte 10 or with the text
+module _ (text piece later : List ℕ) (k : ℕ) (e : text ≡ piece ++ later) (long : length piece ≡ min (k + 1) (length text)) (first : IsFirstMatchOrLen (λ b. eqb b 10) text k) where
+  none_before : (i : ℕ) → i < k → get_or text i 0 ≡ 10 → ⊥
+  none_before i l = eqb-false (get_or text i 0) 10 (first.0 i 0 (omega arith) l)
 
-all_placed : (numbers more : List ℕ) (lines : List Line) → AllByRecursion (Placed numbers) lines → AllByRecursion (Placed (numbers ++ more)) lines
-all_placed numbers more [] p = tt
-all_placed numbers more (l ∷ ls) p = (placed_grown numbers more l p.0, all_placed numbers more ls p.1)
+  -- past the end each byte may be taken for a 10
+  within_text : k ≤ length text
+  within_text =
+      ⊎_elim
+      (λ l. absurd (eqb-false 10 10 (ap (λ b. eqb b 10) (sym (get_or_past text (length text) 10 (omega arith))) ∙ first.0 (length text) 10 (omega arith) l) refl))
+      (λ l. l)
+      (cases_lt (length text) k)
 
-all_said : (n : ℕ) (numbers more : List ℕ) (lines : List Line) → AllByRecursion (Placed numbers) lines → map (said_in n (numbers ++ more)) lines ≡ map (said_in n numbers) lines
-all_said n numbers more [] p = refl
-all_said n numbers more (l ∷ ls) p = let e = said_grown n numbers more l p.0 in let f = all_said n numbers more ls p.1 in rw (e, f) refl
+  front : take (length piece) text ≡ piece
+  front = ap (take (length piece)) e ∙ take_at piece later (length piece) refl
 
-all_push : (P : Line → Type 0) (lines : List Line) (line : Line) → AllByRecursion P lines → P line → AllByRecursion P (lines ++ line ∷ [])
-all_push P [] line p q = (q, tt)
-all_push P (l ∷ ls) line p q = (p.0, all_push P ls line p.1 q)
+  back : drop (length piece) text ≡ later
+  back = ap (drop (length piece)) e ∙ drop_at piece later (length piece) refl
+
+  ended : k < length text → (without_break piece ≡ take k text) × (drop (k + 1) text ≡ later)
+  ended l =
+      let n : length piece ≡ k + 1 = omega arith in
+      let z : length piece - 1 ≡ k = omega arith in
+      let same : piece ≡ take (k + 1) text = sym front ∙ ap (λ m. take m text) n in
+      let last : get_or piece k 0 ≡ 10 = ap (λ t. get_or t k 0) same ∙ get_or-take (k + 1) text k 0 (omega arith) ∙ eqb-true (get_or text k 0) 10 (first.1 l 0) in (
+        ap (λ m. cond (eqb (get_or piece m 0) 10) (take m piece) piece) z ∙ cond-true (eqb (get_or piece k 0) 10) _ _ (eq-eqb (get_or piece k 0) 10 last) ∙ ap (take k) same ∙ take-take k (k + 1) text (omega arith),
+        ap (λ m. drop m text) (sym n) ∙ back,
+      )
+
+  unended : 0 < length text → length text ≤ k → (without_break piece ≡ take k text) × (drop (k + 1) text ≡ later)
+  unended some l =
+      let n : length piece ≡ length text = omega arith in
+      let same : piece ≡ text = sym front ∙ take_all (length piece) text (omega arith) in
+      let last : get_or piece (length piece - 1) 0 ≡ 10 → ⊥ = λ h. none_before (length piece - 1) (omega arith) (ap (λ t. get_or t (length piece - 1) 0) (sym same) ∙ h) in (
+        cond-false (eqb (get_or piece (length piece - 1) 0) 10) _ _ (ne_eqb (get_or piece (length piece - 1) 0) 10 last) ∙ same ∙ sym (take_all k text l),
+        drop_all (k + 1) text (omega arith) ∙ sym (drop_all (length piece) text (omega arith)) ∙ back,
+      )
+
+  pub first_line : 0 < length text → lines_of text ≡ without_break piece ∷ lines_of later
+  first_line some =
+      let at = ⊎_elim ended (unended some) (cases_lt k (length text)) in
+      lines_next text k some within_text none_before (λ l. eqb-true (get_or text k 0) 10 (first.1 l 0)) ∙ ap (λ t. t ∷ lines_of (drop (k + 1) text)) (sym at.0) ∙ ap (λ t. without_break piece ∷ lines_of t) at.1
+
+-- without that byte they are the lines of the text
+pub YieldsList-from_pieces : {F : Type 0} {s : SplitInclusive ℕ F} (g : Mut F (Bor ℕ × Unit {0}) Bool) {f : F} (text : List ℕ) → split_inclusive_rest s ≡ text → split_inclusive_callee s ≡ f
+    → ((x : ℕ) (b : Bool) (q : F) → CalledAt g f x b q → (q ≡ f) × (b ≡ eqb x 10)) → YieldsList (pieces_steps g) (λ x. without_break x.now) s (lines_of text)
+YieldsList-from_pieces {s = s} g {f} text rest closure tests =
+    let p : ℕ → Bool = λ b. eqb b 10 in
+    subst (YieldsList (pieces_steps g) (λ x. without_break x.now) s) (λ i. lines_of (rest i))
+    (YieldsList-from_shown_while (pieces_steps g) (λ x. without_break x.now) (λ t. lines_of (split_inclusive_rest t)) (λ t. ComputesKey g p (split_inclusive_callee t))
+    (λ t u h k. ap length (ap lines_of (nil_from_length (split_inclusive_rest t) k.0) ∙ lines_nil))
+    (λ t x u h k. let m = k.1.2 p h in (m.0, first_line (split_inclusive_rest t) x.now (split_inclusive_rest u) k.1.0 k.0 k.1.1 m.1 k.2))
+    s (subst (ComputesKey g p) (sym closure) (always_returns_same g (λ a r. r ≡ p a.0.now) f (λ a r q k. let m = tests a.0.now r q (record { shown = a.0; shows = refl; called = k }) in (m.1, m.0)))))
 
 -- ---- the loop over the lines
-pub record Read (script rest : List ℕ) (lines : List Line) (numbers : List ℕ) : Type 0 where
-  pub texts : List (List ℕ)
-  pub left : lines_of script ≡ texts ++ lines_of rest
-  pub placed : AllByRecursion (Placed numbers) lines
-  pub says : (n : ℕ) → map (said_in n numbers) lines ≡ map (line_said n) texts
-
-pub read_none : (script : List ℕ) → Read script script [] []
-read_none script = record { texts = []; left = refl; placed = tt; says = λ n. refl }
-
-pub read_more : {script rest : List ℕ} {lines : List Line} {numbers : List ℕ} (text later after : List ℕ) (line : Line)
-    → Read script rest lines numbers → lines_of rest ≡ text ∷ lines_of later → LineRead text numbers after line → Read script later (lines ++ line ∷ []) after
-read_more {lines = lines} {numbers = numbers} text later after line r e one =
-    record {
-      texts = r.texts ++ text ∷ [];
-      left = r.left ∙ ap (λ t. r.texts ++ t) e ∙ sym (append_assoc r.texts (text ∷ []) (lines_of later));
-      placed = all_push (Placed after) lines line (rw one.added (all_placed numbers one.more lines r.placed)) one.placed;
-      says = λ n.
-          map-append (said_in n after) lines (line ∷ [])
-          ∙ ap (λ t. t ++ said_in n after line ∷ []) (ap (λ t. map (said_in n t) lines) one.added ∙ all_said n numbers one.more lines r.placed ∙ r.says n)
-          ∙ ap (λ t. map (line_said n) r.texts ++ t ∷ []) (one.says n)
-          ∙ sym (map-append (line_said n) r.texts (text ∷ []));
-    }
-
-pub read_all : {script rest : List ℕ} {lines : List Line} {numbers : List ℕ} → Read script rest lines numbers → rest ≡ [] → (n : ℕ)
-    → map (said_in n numbers) lines ≡ map (line_said n) (lines_of script)
-read_all r e n = r.says n ∙ ap (map (line_said n)) (sym (r.left ∙ ap (λ t. r.texts ++ lines_of t) e ∙ ap (λ t. r.texts ++ t) lines_nil ∙ append-nil r.texts))
-
--- ---- one line
-pub adds_well : (well : Bool) (found : Option (List ℕ)) (before after : List ℕ) → (b : Bool) → well ≡ b → Adds well found before after → Adds b found before after
-adds_well well found before after b e h = rw e at h
-
-pub spelled_read : (text before after : List ℕ) (letter : ℕ) (rest : List ℕ) (from to : ℕ) → text ≡ letter ∷ rest → from ≡ length before → to ≡ length after
-    → Adds true (numbers_in rest) before after → LineRead text before after (Spelled letter from to)
-spelled_read text before after letter rest from to e f t a =
-    let ns = a.0 in
-    let long : length after ≡ length before + length ns = ap length a.2 ∙ length-append before ns in
-    let cut : take (to - from) (drop from after) ≡ ns =
-    ap (λ x. take (to - from) (drop from x)) a.2 ∙ ap (take (to - from)) (drop_at before ns from (sym f)) ∙ take_all (to - from) ns (omega arith) in
-    record {
-      more = ns;
-      added = a.2;
-      placed = omega arith;
-      says = λ n.
-          cond-true (leb from to && leb to (length after)) _ _ (and_from _ _ (le-leb from to (omega arith)) (le-leb to (length after) (omega arith)))
-          ∙ ap (said n letter) cut ∙ sym (ap (line_said n) e ∙ ap (spelling n letter) a.1);
-    }
-
-pub malformed_read : (text before after : List ℕ) (letter : ℕ) (rest : List ℕ) → text ≡ letter ∷ rest → Adds false (numbers_in rest) before after → LineRead text before after Malformed
-malformed_read text before after letter rest e a =
-    record { more = a.0; added = a.2; placed = tt; says = λ n. sym (ap (line_said n) e ∙ ap (spelling n letter) a.1) }
-
-pub empty_read : (text before : List ℕ) → text ≡ [] → LineRead text before before Malformed
-empty_read text before e = record { more = []; added = sym (append-nil before); placed = tt; says = λ n. sym (ap (line_said n) e) }
-
--- ---- a line by its number
-pub said_past : (n : ℕ) (numbers : List ℕ) (lines : List Line) (i : ℕ) → length lines ≤ i → get_or (map (said_in n numbers) lines) i bad ≡ bad
-said_past n numbers lines i h = get_or_past (map (said_in n numbers) lines) i bad (omega (arith, length-map lines (said_in n numbers)))
-
-pub said_at : (n : ℕ) (numbers : List ℕ) (lines : List Line) (i : ℕ) (line : Line) → i < length lines → line ≡ get_or lines i line → get_or (map (said_in n numbers) lines) i bad ≡ said_in n numbers line
-said_at n numbers lines i line h e = get_or-map (said_in n numbers) lines i line bad h ∙ ap (said_in n numbers) (sym e)
-
-pub read_as : {script rest later : List ℕ} {lines lines' : List Line} {numbers numbers' : List ℕ} → later ≡ rest → lines' ≡ lines → numbers' ≡ numbers
-    → Read script rest lines numbers → Read script later lines' numbers'
-read_as e f g r = rw (e, f, g) r
-
-pub count_said : (n : ℕ) (s : Script) → length (said_by n s) ≡ line_count s
-count_said n s = length-map (vec_items s.lines) (said_in n (vec_items s.numbers))
+pub read_more : (n i : ℕ) (read : List (Option Line)) (text : List ℕ) (line : Option Line) (texts : List (List ℕ))
+    → map (line_said_by n) read ≡ map (line_said n) (take i texts) → i < length texts → text ≡ get_or texts i text → line_said_by n line ≡ line_said n text
+    → map (line_said_by n) (read ++ line ∷ []) ≡ map (line_said n) (take (i + 1) texts)
+read_more n i read text line texts e l t s =
+    map_push (line_said_by n) read line ∙ ap (λ ss. ss ++ line_said_by n line ∷ []) e ∙ ap (λ w. map (line_said n) (take i texts) ++ w ∷ []) (s ∙ ap (line_said n) t) ∙ sym (map_more (line_said n) texts i text l)

@@ -1,51 +1,40 @@
 -- What the script as it was read holds.
-use Rattle.std.specs.Prelude.{◌≡◌, ℕ, ◌-◌, ◌≤◌, Bool, true, false, cond, ◌&&◌, List, [], ◌∷◌, ◌++◌, map, length, take, drop, Some, None, vec_items, Option, nat_le}
+use Rattle.std.specs.Prelude.{ℕ, ◌-◌, cond, ◌&&◌, List, map, length, take, Some, None, vec_items, Option, ◌==◌, slice_index}
+use Rattle.std.specs.List.{list_all}
 use Rattle.rate_map.specs.Told.{command}
-use Rattle.rate_map.specs.declared.call.Call.{Call}
-use Rattle.script.specs.Grammar.{Said, bad, end, call}
-use Rattle.script.specs.Reading.{said, line_said}
+use Rattle.script.specs.Grammar.{Said, bad, end, call, value_of}
+use Rattle.script.specs.Reading.{digit, fit, said}
 use Rattle.script.specs.declared.line.Line.{Line}
-use Rattle.script.specs.declared.line.Line.TheVariants.{Malformed, Spelled}
 use Rattle.script.specs.declared.line.Step.{Step}
 use Rattle.script.specs.declared.line.Step.TheVariants.{Bad, End, Do}
 use Rattle.script.specs.declared.line.Script.{Script}
+use Rattle.script.specs.declared.line.Steps.{Steps}
+
+-- the number that a text is, if it is one
+abbrev pub number_in : List ℕ → Option ℕ
+number_in ds = cond (list_all digit ds && fit (length ds) (value_of 0 ds)) (Some (value_of 0 ds)) None
+
+-- a line without the byte 10 that ends it
+abbrev pub without_break : List ℕ → List ℕ
+without_break l = cond (slice_index l (length l - 1) == 10) (take (length l - 1) l) l
 
 abbrev pub step_said : Step → Said
 step_said Bad = bad
 step_said End = end
 step_said (Do k) = call (command k)
 
--- what a line says whose numbers stand in a list of numbers, from a place to a place
-abbrev pub said_in : ℕ → List ℕ → Line → Said
-said_in n numbers Malformed = bad
-said_in n numbers (Spelled letter from to) = cond (nat_le from to && nat_le to (length numbers)) (said n letter (take (to - from) (drop from numbers))) bad
+-- what a line that was read says over a chain of n states
+abbrev pub line_said_by : ℕ → Option Line → Said
+line_said_by n None = bad
+line_said_by n (Some l) = said n l.letter (vec_items l.numbers)
 
 -- how many lines there are, and what they say
 abbrev pub line_count : Script → ℕ
 line_count s = length (vec_items s.lines)
 
 abbrev pub said_by : ℕ → Script → List Said
-said_by n s = map (said_in n (vec_items s.numbers)) (vec_items s.lines)
+said_by n s = map (line_said_by n) (vec_items s.lines)
 
--- numbers read of a text and added to a list of numbers: well read, it has just those more; else some more, of no meaning
-abbrev pub Adds : Bool → Option (List ℕ) → List ℕ → List ℕ → Type 0
-Adds true found before after = (ns : List ℕ) × (found ≡ Some ns) × (after ≡ before ++ ns)
-Adds false found before after = (ns : List ℕ) × (found ≡ None) × (after ≡ before ++ ns)
-
--- the numbers of a line stand within a list of numbers
-abbrev pub Placed : List ℕ → Line → Type 0
-Placed numbers Malformed = Unit {0}
-Placed numbers (Spelled letter from to) = to ≤ length numbers
-
--- a line read of a text: its numbers are added to a list of numbers, and it says what the text says
-pub record LineRead (text before after : List ℕ) (line : Line) : Type 0 where
-  pub more : List ℕ
-  pub added : after ≡ before ++ more
-  pub placed : Placed after line
-  pub says : (n : ℕ) → said_in n after line ≡ line_said n text
-
--- the calls after a line: a call more, and whether more lines are to come
-abbrev pub Stepped : Step → List Call → List Call → Bool → Type 0
-Stepped Bad before after more = (after ≡ before) × (more ≡ true)
-Stepped End before after more = (after ≡ before) × (more ≡ false)
-Stepped (Do k) before after more = (after ≡ before ++ k ∷ []) × (more ≡ true)
+-- what the lines still to come say
+abbrev pub steps_left : Steps → List Said
+steps_left s = map (line_said_by s.states) s.lines.now

@@ -1,19 +1,22 @@
-// A script as it was read.
+// A script as it was read, and what its lines say.
+ghost use Rattle.std.specs.Prelude.{◌≡◌, List, length, slice_index_or};
+ghost use Rattle.script.specs.Grammar.{bad};
+ghost use Rattle.script.specs.Values.{step_said, line_said_by, line_count, said_by};
+
+use crate::step::say;
 use rate_map::call::Call;
 
-// A line: its letter, and where its numbers stand among the numbers of the script; or a line whose numbers have not the
-// form of numbers.
-#[derive(Clone, Copy)]
-pub(crate) enum Line {
-    Malformed,
-    Spelled { letter: u8, from: usize, to: usize },
+// A line: its letter, and its numbers.
+#[derive(Drop)]
+pub(crate) struct Line {
+    pub(crate) letter: char,
+    pub(crate) numbers: Vec<u32>,
 }
 
-// The lines of a script, and the numbers of all lines.
+// The lines of a script. None is a line that has no letter, or whose numbers have not the form of numbers.
 #[derive(Drop)]
 pub struct Script {
-    pub(crate) lines: Vec<Line>,
-    pub(crate) numbers: Vec<u32>,
+    pub(crate) lines: Vec<Option<Line>>,
 }
 
 // What a line says: a call, the end, or neither.
@@ -22,4 +25,69 @@ pub enum Step<'a> {
     Bad,
     End,
     Do(Call<'a>),
+}
+
+// What the lines of a script say in turn, of a map over a chain of so many states.
+#[derive(Drop)]
+pub struct Steps<'a> {
+    lines: &'a [Option<Line>],
+    states: u32,
+}
+
+// What a line says of a map over a chain of so many states.
+fn say_line<'a>(line: &'a Option<Line>, states: u32) -> Step<'a>
+    ensures { step_said result ≡ line_said_by states line.now }
+{
+    match line {
+        Some(line) => say(line.letter, &line.numbers, states),
+        None => Step::Bad,
+    }
+}
+
+impl<'a> Iterator for Steps<'a> {
+    ghost use Rattle.std.specs.Iterator.{YieldsFirstBy, item_count};
+    ghost use Rattle.script.specs.Values.{step_said, steps_left};
+
+    type Item = Step<'a>;
+
+    ghost next_gives = { YieldsFirstBy step_said steps_left };
+
+    ghost remaining = { item_count steps_left };
+
+    fn next(&mut self) -> Option<Step<'a>> {
+        let (line, rest) = self.lines.split_first()?;
+        self.lines = rest;
+        Some(say_line(line, self.states))
+    }
+}
+
+impl Script {
+    ghost use Rattle.script.specs.Values.{steps_left};
+
+    // How many lines it has.
+    pub fn len(&self) -> usize
+        ensures { result ≡ line_count self.now }
+    {
+        self.lines.len()
+    }
+
+    // What a line says of a map over a chain of so many states. A line that is not there says nothing.
+    pub fn step<'a>(&'a self, number: usize, states: u32) -> Step<'a>
+        ensures { step_said result ≡ slice_index_or (said_by states self.now) number bad }
+    {
+        match self.lines.get(number) {
+            Some(line) => say_line(line, states),
+            None => Step::Bad,
+        }
+    }
+
+    // What its lines say in turn, of a map over a chain of so many states.
+    pub fn steps<'a>(&'a self, states: u32) -> Steps<'a>
+        ensures { steps_left result ≡ said_by states self.now }
+    {
+        Steps {
+            lines: &self.lines,
+            states,
+        }
+    }
 }

@@ -1,66 +1,48 @@
 // The numbers of a line.
-ghost use Rattle.std.specs.Prelude.{◌≡◌, ℕ, ◌+◌, ◌^◌, ◌<◌, ◌≤◌, List, ◌++◌, length, IfOk};
-ghost use Rattle.script.specs.Reading.{digit, fit, within, numbers_in};
-ghost use Rattle.script.specs.Values.{Adds};
+ghost use Rattle.std.specs.Prelude.{◌≡◌, ℕ, List, vec_items, option_map, IfOk};
+ghost use Rattle.script.specs.Reading.{within, numbers_in};
+ghost use Rattle.script.specs.Values.{number_in};
 
-use std::alloc::AllocError;
+use std::alloc::{AllocError, Global};
 
-// The first number that is too large.
-const LIMIT: u64 = 4294967296;
-
-fn is_digit(byte: u8) -> bool
-    ensures { result ≡ digit byte }
+// Reads a number: 1 to 10 digits that make a number below 2^32.
+fn read_number(digits: &[u8]) -> Option<u32>
+    ensures { result ≡ number_in digits.now }
 {
-    48 <= byte && byte <= 57
-}
-
-// Whether so many digits may make a number.
-fn is_number(count: u32, value: u64) -> bool
-    ensures { result ≡ fit count value }
-{
-    1 <= count && count <= 10 && value < LIMIT
-}
-
-// Reads the numbers of a text behind its first space, and adds them to the numbers of the script. False where the text
-// has not the form of numbers.
-fn read_spaced(text: &[u8], numbers: &mut Vec<u32>) -> Result<bool, AllocError>
-    ensures { IfOk result (λ well. Adds well (within 0 0 text.now) numbers.old.items numbers.new.items) }
-{
-    let mut count = 0u32;
+    if digits.is_empty() || digits.len() > 10 {
+        return None;
+    }
     let mut value = 0u64;
-    for byte in text {
-        let b = *byte;
-        if is_digit(b) {
-            if count >= 10 || value >= LIMIT {
-                return Ok(false);
-            }
-            count += 1;
-            value = 10 * value + (b - 48) as u64;
-        } else {
-            if b != 32 || !is_number(count, value) {
-                return Ok(false);
-            }
-            numbers.push(value as u32)?;
-            count = 0;
-            value = 0;
+    for byte in digits {
+        if !byte.is_ascii_digit() {
+            return None;
         }
+        value = 10 * value + u64::from(*byte - b'0');
     }
-    if !is_number(count, value) {
-        return Ok(false);
-    }
-    numbers.push(value as u32)?;
-    Ok(true)
+    u32::try_from(value).ok()
 }
 
-// Reads the numbers of a text, each behind one space.
-pub(crate) fn read_numbers(text: &[u8], numbers: &mut Vec<u32>) -> Result<bool, AllocError>
-    ensures { IfOk result (λ well. Adds well (numbers_in text.now) numbers.old.items numbers.new.items) }
+// Reads the numbers of a text behind its first space. None where the text has not the form of numbers.
+fn read_spaced(heap: Global, text: &[u8]) -> Result<Option<Vec<u32>>, AllocError>
+    ensures { IfOk result (λ found. option_map vec_items found ≡ within 0 0 text.now) }
 {
-    let [first, rest @ ..] = text else {
-        return Ok(true);
-    };
-    if *first != 32 {
-        return Ok(false);
+    let mut numbers = Vec::new(heap);
+    for digits in text.split(|byte| *byte == b' ') {
+        let Some(number) = read_number(digits) else {
+            return Ok(None);
+        };
+        numbers.push(number)?;
     }
-    read_spaced(rest, numbers)
+    Ok(Some(numbers))
+}
+
+// Reads the numbers of a text, each behind one space. None where the text has not the form of numbers.
+pub(crate) fn read_numbers(heap: Global, text: &[u8]) -> Result<Option<Vec<u32>>, AllocError>
+    ensures { IfOk result (λ found. option_map vec_items found ≡ numbers_in text.now) }
+{
+    match text {
+        [] => Ok(Some(Vec::new(heap))),
+        [b' ', rest @ ..] => read_spaced(heap, rest),
+        _ => Ok(None),
+    }
 }

@@ -1,59 +1,34 @@
-// A script read line by line.
-ghost use Rattle.std.specs.Prelude.{◌≡◌, ℕ, ◌+◌, ◌<◌, ◌≤◌, List, map as mapped, length, drop, IfOk, ◌≢◌, slice_index, slice_index_or};
+// A script read line by line, and the calls that it makes.
+ghost use Rattle.std.specs.Prelude.{◌≡◌, ℕ, List, map as mapped, IfOk};
 ghost use Rattle.rate_map.specs.Told.{command};
-ghost use Rattle.script.specs.Grammar.{Said, bad, ScriptSays};
-ghost use Rattle.script.specs.Reading.{script_said, commands, closes};
-ghost use Rattle.script.specs.Values.{step_said, line_count, said_by, LineRead, Stepped};
+ghost use Rattle.script.specs.Grammar.{ScriptSays};
+ghost use Rattle.script.specs.Reading.{line_said, script_said, commands, closes};
+ghost use Rattle.script.specs.Values.{line_said_by, said_by, without_break};
 
 use crate::line::{Line, Script, Step};
 use crate::numbers::read_numbers;
-use crate::step::say_line;
 use rate_map::call::Call;
 use std::alloc::{AllocError, Global};
 
-// How many bytes of a text stand before its first byte 10, or all.
-fn line_length(text: &[u8]) -> usize
-    ensures within { result ≤ length text.now }
-    ensures before { (k : ℕ) → k < result → slice_index text.now k ≢ 10 }
-    ensures found { result < length text.now → slice_index text.now result ≡ 10 }
+// A line without the byte 10 that ends it.
+fn without_break<'a>(line: &'a [u8]) -> &'a [u8]
+    ensures { result.now ≡ without_break line.now }
 {
-    for (i, byte) in text.iter().enumerate() {
-        if *byte == 10 {
-            return i;
-        }
-    }
-    text.len()
+    line.strip_suffix(b"\n").unwrap_or(line)
 }
 
-// What stands behind the line of a length, and behind its byte 10.
-fn behind<'a>(text: &'a [u8], length: usize) -> &'a [u8]
-    ensures { result.now ≡ drop («length» + 1) text.now }
-{
-    if length < text.len() {
-        &text[length + 1..]
-    } else {
-        &text[text.len()..]
-    }
-}
-
-// Reads one line, and adds its numbers to those of the script.
-fn read_line(text: &[u8], numbers: &mut Vec<u32>) -> Result<Line, AllocError>
-    ensures { IfOk result (LineRead text.now numbers.old.items numbers.new.items) }
+// Reads one line. None where it has not the form of a letter and numbers.
+fn read_line(heap: Global, text: &[u8]) -> Result<Option<Line>, AllocError>
+    ensures { IfOk result (λ line. (n : ℕ) → line_said_by n line ≡ line_said n text.now) }
 {
     let [letter, rest @ ..] = text else {
-        return Ok(Line::Malformed);
+        return Ok(None);
     };
-    let from = numbers.len();
-    let well = read_numbers(rest, numbers)?;
-    if well {
-        Ok(Line::Spelled {
-            letter: *letter,
-            from,
-            to: numbers.len(),
-        })
-    } else {
-        Ok(Line::Malformed)
-    }
+    let numbers = read_numbers(heap, rest)?;
+    Ok(numbers.map(|numbers| Line {
+        letter: char::from(*letter),
+        numbers,
+    }))
 }
 
 // The calls of a script up to its end, and whether it comes to an end.
@@ -63,20 +38,6 @@ pub struct Plan<'a> {
     pub close: bool,
 }
 
-// Adds the call of a line to the calls, and tells whether more lines are to come.
-fn add_step<'a>(calls: &mut Vec<Call<'a>>, step: Step<'a>) -> Result<bool, AllocError>
-    ensures { IfOk result (λ more. Stepped step.entry calls.old.items calls.new.items more) }
-{
-    match step {
-        Step::Bad => Ok(true),
-        Step::End => Ok(false),
-        Step::Do(call) => {
-            calls.push(call)?;
-            Ok(true)
-        }
-    }
-}
-
 impl Script {
     // Reads a script of any bytes. What its lines then say is what the grammar says of them.
     pub fn read(heap: Global, bytes: &[u8]) -> Result<Script, AllocError>
@@ -84,32 +45,10 @@ impl Script {
         ensures grammar { IfOk result (λ s. (n : ℕ) → ScriptSays n bytes.now (said_by n s)) }
     {
         let mut lines = Vec::new(heap);
-        let mut numbers = Vec::new(heap);
-        let mut rest = bytes;
-        while rest.len() > 0 {
-            let length = line_length(rest);
-            let line = read_line(&rest[0..length], &mut numbers)?;
-            lines.push(line)?;
-            rest = behind(rest, length);
+        for line in bytes.split_inclusive(|byte| *byte == b'\n') {
+            lines.push(read_line(heap, without_break(line))?)?;
         }
-        Ok(Script { lines, numbers })
-    }
-
-    // How many lines it has.
-    pub fn len(&self) -> usize
-        ensures { result ≡ line_count self.now }
-    {
-        self.lines.len()
-    }
-
-    // What a line says of a map over a chain of so many states. A line that is not there says nothing.
-    pub fn step<'a>(&'a self, number: usize, states: u32) -> Step<'a>
-        ensures { step_said result ≡ slice_index_or (said_by states self.now) number bad }
-    {
-        if number >= self.lines.len() {
-            return Step::Bad;
-        }
-        say_line(self.lines[number], &self.numbers, states)
+        Ok(Script { lines })
     }
 
     // The calls that it makes on a map over a chain of so many states.
@@ -117,11 +56,11 @@ impl Script {
         ensures { IfOk result (λ p. (mapped command p.calls.items ≡ commands (said_by states self.now)) × (p.close ≡ closes (said_by states self.now))) }
     {
         let mut calls = Vec::new(heap);
-        for i in 0..self.len() {
-            let step = self.step(i, states);
-            let more = add_step(&mut calls, step)?;
-            if !more {
-                return Ok(Plan { calls, close: true });
+        for step in self.steps(states) {
+            match step {
+                Step::Bad => {}
+                Step::End => return Ok(Plan { calls, close: true }),
+                Step::Do(call) => calls.push(call)?,
             }
         }
         Ok(Plan {

@@ -1,9 +1,9 @@
 // What a letter and numbers say.
 ghost use Rattle.std.specs.Prelude.{◌≡◌, ℕ};
 ghost use Rattle.script.specs.Reading.{said, laid, cuts, safes, unsafes, asks, ends};
-ghost use Rattle.script.specs.Values.{step_said, said_in};
+ghost use Rattle.script.specs.Values.{step_said};
 
-use crate::line::{Line, Step};
+use crate::line::Step;
 use rate_map::call::Call;
 
 fn say_lay_out<'a>(numbers: &'a [u32]) -> Step<'a>
@@ -47,7 +47,7 @@ fn say_unsafe<'a>(numbers: &'a [u32], states: u32) -> Step<'a>
 {
     match numbers {
         [number, both @ ..] => {
-            let (v, w) = both.split_at(both.len().min(states as usize));
+            let (v, w) = both.split_at((states as usize).min(both.len()));
             Step::Do(Call::Unsafe {
                 number: *number,
                 v,
@@ -88,21 +88,5 @@ pub fn say<'a>(letter: char, numbers: &'a [u32], states: u32) -> Step<'a>
         'Q' => say_find(numbers),
         'E' => say_end(numbers),
         _ => Step::Bad,
-    }
-}
-
-// What a line says whose numbers stand among these.
-pub(crate) fn say_line<'a>(line: Line, numbers: &'a [u32], states: u32) -> Step<'a>
-    ensures { step_said result ≡ said_in states numbers.now line }
-{
-    match line {
-        Line::Malformed => Step::Bad,
-        Line::Spelled { letter, from, to } => {
-            if from <= to && to <= numbers.len() {
-                say(letter as char, &numbers[from..to], states)
-            } else {
-                Step::Bad
-            }
-        }
     }
 }

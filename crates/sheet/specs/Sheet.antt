@@ -1,9 +1,10 @@
 -- What is shown of a map, as bytes: an answer in a line, and the sheet, a line for each box and a last one with the volumes.
-use Rattle.std.specs.Prelude.{ℕ, zero, suc, ◌+◌, ◌*◌, min, List, [], ◌∷◌, ◌++◌, codes, decimal, slice_index}
+use Rattle.std.specs.Prelude.{ℕ, zero, suc, ◌+◌, ◌*◌, min, List, [], ◌∷◌, ◌++◌, codes, decimal, Ok, Err, slice_index}
 use Rattle.chain.specs.Refusals.{number_of, place_of}
 use Rattle.chain.specs.declared.refusal.Refusal.{Refusal}
-use Rattle.theory.specs.declared.record.Answer.{Answer}
-use Rattle.theory.specs.declared.record.Answer.TheVariants.{Done, Refused, Count, Found, Measured}
+use Rattle.theory.specs.declared.record.Reply.{Reply}
+use Rattle.theory.specs.declared.record.Reply.TheVariants.{Done, Count, Found, Measured}
+use Rattle.theory.specs.Runs.{Answer}
 use Rattle.theory.specs.declared.record.BoxRecord.{BoxRecord}
 use Rattle.theory.specs.declared.record.Volumes.{Volumes}
 use Rattle.theory.specs.declared.verdict.Verdict.{Verdict}
@@ -46,13 +47,17 @@ sheet_bytes rates boxes v = box_lines 0 rates boxes ++ volumes_line v
 abbrev pub refused_line : Refusal → List ℕ
 refused_line e = codes "refused" ++ (spaced (number_of e) ++ (spaced (place_of e) ++ 10 ∷ []))
 
--- the line of an answer; where it is a box, with the number of the box
+-- the line of what is told; where it is a box, with the number of the box
+abbrev pub reply_line : ℕ → ℕ → Reply → List ℕ
+reply_line number rates Done = codes "ok" ++ 10 ∷ []
+reply_line number rates (Count n) = decimal n ++ 10 ∷ []
+reply_line number rates (Found r) = box_line number rates r
+reply_line number rates (Measured v) = volumes_line v
+
+-- the line of an answer
 abbrev pub answer_line : ℕ → ℕ → Answer → List ℕ
-answer_line number rates Done = codes "ok" ++ 10 ∷ []
-answer_line number rates (Refused e) = refused_line e
-answer_line number rates (Count n) = decimal n ++ 10 ∷ []
-answer_line number rates (Found r) = box_line number rates r
-answer_line number rates (Measured v) = volumes_line v
+answer_line number rates (Ok r) = reply_line number rates r
+answer_line number rates (Err e) = refused_line e
 
 -- how long a line can be, and the sheet of so many boxes
 abbrev pub longest_line : ℕ

@@ -1,16 +1,11 @@
 -- What a buffer holds while bytes are written to it one after another.
-use Rattle.std.specs.Prelude.{◌≡◌, ℕ, ◌+◌, ◌<◌, ◌≤◌, List, ◌++◌, length, drop, Result, MatchResult}
+use Rattle.std.specs.Prelude.{◌≡◌, ℕ, ◌<◌, ◌≤◌, List, ◌++◌, length, drop, Result, MatchResult}
 use Rattle.chain.specs.declared.refusal.Refusal.{Refusal}
 use Rattle.chain.specs.declared.refusal.Refusal.TheVariants.{ShortBuffer}
 
 -- The buffer held `base` and holds now the bytes xs and after them what it held.
 abbrev pub Wrote : List ℕ → List ℕ → List ℕ → Type 0
 Wrote base now xs = now ≡ xs ++ drop (length xs) base
-
--- Whatever had been written up to the place `at`, the bytes ys stand after it now, and `next` is the place after them.
-pub record Put (before after : List ℕ) (at next : ℕ) (ys : List ℕ) : Type 0 where
-  pub place : next ≡ at + length ys
-  pub written : (base xs : List ℕ) → Wrote base before xs → length xs ≡ at → Wrote base after (xs ++ ys)
 
 -- What a call answers that writes the bytes xs to a buffer: their number, or a refusal of a buffer that is too short, which is left as it was.
 abbrev pub Written : Result ℕ Refusal → List ℕ → List ℕ → List ℕ → Type 0

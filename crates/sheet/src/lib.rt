@@ -9,14 +9,20 @@ ghost use Rattle.sheet.specs.Wrote.{Written};
 
 mod line;
 mod lines;
-mod measure;
-mod put;
 
 use chain::refusal::Refusal;
-use line::{put_answer, put_box, put_volumes};
-use lines::{put_boxes, sheet_length};
-use measure::{answer_length, box_length};
+use line::{AnswerLine, BoxLine};
+use lines::Lines;
+use sink::{Encode, write};
 use theory::record::{Answer, BoxRecord, Volumes};
+
+// Writes all at the start of a buffer, and gives its length.
+fn written<E: Encode>(value: &E, buffer: &mut [u8]) -> Result<usize, Refusal>
+    ensures written { Written result buffer.old buffer.new (E.bytes value.now) }
+    ensures enough { E.most value.now ≤ length buffer.old → is_ok result ≡ true }
+{
+    write(value, buffer).map_err(|_| Refusal::ShortBuffer)
+}
 
 // Writes the line of one box at the start of a buffer, and gives its length.
 pub fn write_box(
@@ -27,11 +33,12 @@ pub fn write_box(
 ) -> Result<usize, Refusal>
     ensures { Written result buffer.old buffer.new (box_line number rates «record».now) }
 {
-    let length = box_length(number as u64, rates, record);
-    if buffer.len() < length {
-        return Err(Refusal::ShortBuffer);
-    }
-    Ok(put_box(buffer, 0, number as u64, rates, record))
+    let line = BoxLine {
+        number: number as u64,
+        rates,
+        shown: record,
+    };
+    written(&line, buffer)
 }
 
 // Writes the line of an answer at the start of a buffer, and gives its length. Where the answer is a box, the line has
@@ -45,11 +52,12 @@ pub fn write_answer(
     ensures written { Written result buffer.old buffer.new (answer_line number rates answer.now) }
     ensures enough { longest_line ≤ length buffer.old → is_ok result ≡ true }
 {
-    let needed = answer_length(number as u64, rates, answer);
-    if buffer.len() < needed {
-        return Err(Refusal::ShortBuffer);
-    }
-    Ok(put_answer(buffer, 0, number as u64, rates, answer))
+    let line = AnswerLine {
+        number: number as u64,
+        rates,
+        answer,
+    };
+    written(&line, buffer)
 }
 
 // Writes the sheet at the start of a buffer, and gives its length. 238 bytes for each box and 63 more are always enough.
@@ -62,10 +70,12 @@ pub fn write_sheet(
     ensures written { Written result buffer.old buffer.new (sheet_bytes rates boxes.now volumes.now) }
     ensures enough { longest_sheet (length boxes.now) ≤ length buffer.old → is_ok result ≡ true }
 {
-    let length = sheet_length(rates, boxes, volumes, buffer.len())?;
-    let next = put_boxes(buffer, rates, boxes);
-    put_volumes(buffer, next, volumes);
-    Ok(length)
+    let lines = Lines {
+        rates,
+        boxes,
+        volumes,
+    };
+    written(&lines, buffer)
 }
 
 #[cfg(test)]

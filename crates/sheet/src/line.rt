@@ -1,112 +1,143 @@
-// The lines of a box, of the volumes and of an answer.
-ghost use Rattle.std.specs.Prelude.{◌+◌, ◌≤◌, [], ◌∷◌, ◌++◌, length, decimal};
-ghost use Rattle.sheet.specs.Sheet.{sides, verdict_words, box_line, volumes_line, refused_line, answer_line};
-ghost use Rattle.sheet.specs.Wrote.{Put};
+// The lines of a box, of the volumes and of an answer, put into any sink.
+ghost use Rattle.std.specs.Prelude.{◌+◌, ◌≤◌, [], ◌∷◌, ◌++◌, length, min, decimal};
+ghost use Rattle.sheet.specs.Sheet.{spaced, sides, verdict_words, box_line, volumes_line, refused_line, answer_line, longest_line};
 
-use crate::measure::side_of;
-use crate::put::{put_byte, put_bytes, put_number, put_spaced};
 use chain::refusal::Refusal;
-use theory::record::{Answer, BoxRecord, Volumes};
+use itoa::Buffer;
+use sink::{Encode, Sink};
+use theory::record::{Answer, BoxRecord, Reply, Volumes};
 use theory::verdict::Verdict;
 
-// Low and high of each of the first rates.
-fn put_sides(buffer: &mut [u8], at: usize, count: usize, record: &BoxRecord) -> usize
-    requires { (count ≤ 4) × (at + length (sides «record».now count) ≤ length buffer.old) }
-    ensures { Put buffer.old buffer.new at result (sides «record».now count) }
+// The decimal digits of a number, without leading zeros.
+fn put_number<S: Sink>(sink: &mut S, n: u64)
+    ensures taken { S.Takes sink.old (decimal n) sink.new }
+    ensures within { length (decimal n) ≤ 20 }
 {
-    let mut next = at;
-    for k in 0..count {
-        let (low, high) = side_of(record, k);
-        next = put_spaced(buffer, next, low as u64);
-        next = put_spaced(buffer, next, high as u64);
+    let mut digits = Buffer::new();
+    sink.put(digits.format(n).as_bytes());
+}
+
+// A space and then a number.
+fn put_spaced<S: Sink>(sink: &mut S, n: u64)
+    ensures taken { S.Takes sink.old (spaced n) sink.new }
+    ensures within { length (spaced n) ≤ 21 }
+{
+    sink.put(b" ");
+    put_number(sink, n);
+}
+
+// A word and then a number.
+fn put_word<S: Sink>(sink: &mut S, word: &[u8], n: u64)
+    ensures taken { S.Takes sink.old (word.now ++ spaced n) sink.new }
+    ensures within { length (word.now ++ spaced n) ≤ length word.now + 21 }
+{
+    sink.put(word);
+    put_spaced(sink, n);
+}
+
+// Low and high of each of the first rates.
+fn put_sides<S: Sink>(sink: &mut S, rates: u32, record: &BoxRecord)
+    ensures taken { S.Takes sink.old (sides «record».now (min rates 4)) sink.new }
+    ensures within { length (sides «record».now (min rates 4)) ≤ 168 }
+{
+    let count = rates.min(4) as usize;
+    for (low, high) in record.low[..count].iter().zip(&record.high[..count]) {
+        put_spaced(sink, *low as u64);
+        put_spaced(sink, *high as u64);
     }
-    next
 }
 
 // A verdict: its word, and its numbers.
-fn put_verdict(buffer: &mut [u8], at: usize, verdict: Verdict) -> usize
-    requires { at + length (verdict_words verdict) ≤ length buffer.old }
-    ensures { Put buffer.old buffer.new at result (verdict_words verdict) }
+fn put_verdict<S: Sink>(sink: &mut S, verdict: Verdict)
+    ensures taken { S.Takes sink.old (verdict_words verdict) sink.new }
+    ensures within { length (verdict_words verdict) ≤ 49 }
 {
     match verdict {
-        Verdict::Open => put_bytes(buffer, at, b" open"),
-        Verdict::Safe { bound } => {
-            let next = put_bytes(buffer, at, b" safe");
-            put_spaced(buffer, next, bound as u64)
-        }
+        Verdict::Open => sink.put(b" open"),
+        Verdict::Safe { bound } => put_word(sink, b" safe", bound as u64),
         Verdict::Unsafe { bound, steps } => {
-            let next = put_bytes(buffer, at, b" unsafe");
-            let last = put_spaced(buffer, next, bound as u64);
-            put_spaced(buffer, last, steps)
+            put_word(sink, b" unsafe", bound as u64);
+            put_spaced(sink, steps);
         }
     }
 }
 
-// The line of a box: its number, its sides and its verdict.
-pub(crate) fn put_box(
-    buffer: &mut [u8],
-    at: usize,
-    number: u64,
-    rates: u32,
-    record: &BoxRecord,
-) -> usize
-    requires { at + length (box_line number rates «record».now) ≤ length buffer.old }
-    ensures { Put buffer.old buffer.new at result (box_line number rates «record».now) }
-{
-    let count = rates.min(4) as usize;
-    let numbered = put_number(buffer, at, number);
-    let bounded = put_sides(buffer, numbered, count, record);
-    let judged = put_verdict(buffer, bounded, record.verdict);
-    put_byte(buffer, judged, b'\n')
-}
-
 // The line of the volumes: safe, unsafe and open.
-pub(crate) fn put_volumes(buffer: &mut [u8], at: usize, volumes: &Volumes) -> usize
-    requires { at + length (volumes_line volumes.now) ≤ length buffer.old }
-    ensures { Put buffer.old buffer.new at result (volumes_line volumes.now) }
+pub(crate) fn put_volumes<S: Sink>(sink: &mut S, volumes: &Volumes)
+    ensures taken { S.Takes sink.old (volumes_line volumes.now) sink.new }
+    ensures within { length (volumes_line volumes.now) ≤ 63 }
 {
-    let safe = put_number(buffer, at, volumes.safe);
-    let exceeding = put_spaced(buffer, safe, volumes.exceeding);
-    let pending = put_spaced(buffer, exceeding, volumes.pending);
-    put_byte(buffer, pending, b'\n')
+    put_number(sink, volumes.safe);
+    put_spaced(sink, volumes.exceeding);
+    put_spaced(sink, volumes.pending);
+    sink.put(b"\n");
 }
 
 // The line of a refusal: its number and its place.
-fn put_refusal(buffer: &mut [u8], at: usize, refusal: &Refusal) -> usize
-    requires { at + length (refused_line refusal.now) ≤ length buffer.old }
-    ensures { Put buffer.old buffer.new at result (refused_line refusal.now) }
+fn put_refusal<S: Sink>(sink: &mut S, refusal: &Refusal)
+    ensures taken { S.Takes sink.old (refused_line refusal.now) sink.new }
+    ensures within { length (refused_line refusal.now) ≤ 50 }
 {
-    let word = put_bytes(buffer, at, b"refused");
-    let numbered = put_spaced(buffer, word, refusal.number() as u64);
-    let placed = put_spaced(buffer, numbered, refusal.place() as u64);
-    put_byte(buffer, placed, b'\n')
+    put_word(sink, b"refused", refusal.number() as u64);
+    put_spaced(sink, refusal.place() as u64);
+    sink.put(b"\n");
 }
 
 // A number alone.
-fn put_count(buffer: &mut [u8], at: usize, n: u32) -> usize
-    requires { at + length (decimal n ++ 10 ∷ []) ≤ length buffer.old }
-    ensures { Put buffer.old buffer.new at result (decimal n ++ 10 ∷ []) }
+fn put_count<S: Sink>(sink: &mut S, n: u32)
+    ensures taken { S.Takes sink.old (decimal n ++ 10 ∷ []) sink.new }
+    ensures within { length (decimal n ++ 10 ∷ []) ≤ 21 }
 {
-    let next = put_number(buffer, at, n as u64);
-    put_byte(buffer, next, b'\n')
+    put_number(sink, n as u64);
+    sink.put(b"\n");
 }
 
-// The line of an answer.
-pub(crate) fn put_answer(
-    buffer: &mut [u8],
-    at: usize,
-    number: u64,
-    rates: u32,
-    answer: &Answer,
-) -> usize
-    requires { at + length (answer_line number rates answer.now) ≤ length buffer.old }
-    ensures { Put buffer.old buffer.new at result (answer_line number rates answer.now) }
-{
-    match answer {
-        Answer::Done => put_bytes(buffer, at, b"ok\n"),
-        Answer::Refused(refusal) => put_refusal(buffer, at, refusal),
-        Answer::Count(n) => put_count(buffer, at, *n),
-        Answer::Found(found) => put_box(buffer, at, number, rates, found),
-        Answer::Measured(volumes) => put_volumes(buffer, at, volumes),
+// The line of a box: its number, low and high of so many rates, and its verdict.
+#[derive(Clone, Copy)]
+pub(crate) struct BoxLine<'a> {
+    pub(crate) number: u64,
+    pub(crate) rates: u32,
+    pub(crate) shown: &'a BoxRecord,
+}
+
+impl Encode for BoxLine<'_> {
+    ghost bytes = { λ l. box_line l.number l.rates l.shown.now };
+
+    ghost most = { λ _. longest_line };
+
+    fn encode<S: Sink>(&self, sink: &mut S) {
+        put_number(sink, self.number);
+        put_sides(sink, self.rates, self.shown);
+        put_verdict(sink, self.shown.verdict);
+        sink.put(b"\n");
+    }
+}
+
+// The line of an answer. Where it is a box, it has this number and so many rates.
+#[derive(Clone, Copy)]
+pub(crate) struct AnswerLine<'a> {
+    pub(crate) number: u64,
+    pub(crate) rates: u32,
+    pub(crate) answer: &'a Answer,
+}
+
+impl Encode for AnswerLine<'_> {
+    ghost bytes = { λ l. answer_line l.number l.rates l.answer.now };
+
+    ghost most = { λ _. longest_line };
+
+    fn encode<S: Sink>(&self, sink: &mut S) {
+        match self.answer {
+            Ok(Reply::Done) => sink.put(b"ok\n"),
+            Ok(Reply::Count(n)) => put_count(sink, *n),
+            Ok(Reply::Found(shown)) => BoxLine {
+                number: self.number,
+                rates: self.rates,
+                shown,
+            }
+            .encode(sink),
+            Ok(Reply::Measured(volumes)) => put_volumes(sink, volumes),
+            Err(refusal) => put_refusal(sink, refusal),
+        }
     }
 }

@@ -1,46 +1,42 @@
-// All lines of the sheet: their length, and the lines of the boxes.
-ghost use Rattle.std.specs.Prelude.{◌≡◌, ◌+◌, ◌<◌, ◌≤◌, length, MatchResult};
-ghost use Rattle.chain.specs.declared.refusal.Refusal.TheVariants.{ShortBuffer};
-ghost use Rattle.sheet.specs.Sheet.{box_lines, sheet_bytes, longest_sheet};
-ghost use Rattle.sheet.specs.Wrote.{Put};
+// All lines of the sheet.
+ghost use Rattle.std.specs.Prelude.{◌*◌, ◌≤◌, length};
+ghost use Rattle.sheet.specs.Sheet.{box_lines, sheet_bytes, longest_line, longest_sheet};
 
-use crate::line::put_box;
-use crate::measure::{box_length, volumes_length};
-use chain::refusal::Refusal;
+use crate::line::{BoxLine, put_volumes};
+use sink::{Encode, Sink};
 use theory::record::{BoxRecord, Volumes};
 
-// The length of the sheet, unless it is more than `most`.
-pub(crate) fn sheet_length(
-    rates: u32,
-    boxes: &[BoxRecord],
-    volumes: &Volumes,
-    most: usize,
-) -> Result<usize, Refusal>
-    ensures { MatchResult result (λ n. (n ≡ length (sheet_bytes rates boxes.now volumes.now)) × (n ≤ most)) (λ e. (e ≡ ShortBuffer) × (most < length (sheet_bytes rates boxes.now volumes.now)) × (most < longest_sheet (length boxes.now))) }
-{
-    let mut total = 0;
-    for i in 0..boxes.len() {
-        let length = box_length(i as u64, rates, &boxes[i]);
-        if most - total < length {
-            return Err(Refusal::ShortBuffer);
-        }
-        total += length;
-    }
-    let length = volumes_length(volumes);
-    if most - total < length {
-        return Err(Refusal::ShortBuffer);
-    }
-    Ok(total + length)
+// A line for each box, and a last one with the volumes.
+#[derive(Clone, Copy)]
+pub(crate) struct Lines<'a> {
+    pub(crate) rates: u32,
+    pub(crate) boxes: &'a [BoxRecord],
+    pub(crate) volumes: &'a Volumes,
 }
 
-// The lines of the boxes at the start of a buffer, and the place after them.
-pub(crate) fn put_boxes(buffer: &mut [u8], rates: u32, boxes: &[BoxRecord]) -> usize
-    requires { length (box_lines 0 rates boxes.now) ≤ length buffer.old }
-    ensures { Put buffer.old buffer.new 0 result (box_lines 0 rates boxes.now) }
-{
-    let mut next = 0;
-    for i in 0..boxes.len() {
-        next = put_box(buffer, next, i as u64, rates, &boxes[i]);
+impl Lines<'_> {
+    fn put_boxes<S: Sink>(&self, sink: &mut S)
+        ensures taken { S.Takes sink.old (box_lines 0 self.now.rates self.now.boxes.now) sink.new }
+        ensures within { length (box_lines 0 self.now.rates self.now.boxes.now) ≤ longest_line * length self.now.boxes.now }
+    {
+        for (i, shown) in self.boxes.iter().enumerate() {
+            BoxLine {
+                number: i as u64,
+                rates: self.rates,
+                shown,
+            }
+            .encode(sink);
+        }
     }
-    next
+}
+
+impl Encode for Lines<'_> {
+    ghost bytes = { λ l. sheet_bytes l.rates l.boxes.now l.volumes.now };
+
+    ghost most = { λ l. longest_sheet (length l.boxes.now) };
+
+    fn encode<S: Sink>(&self, sink: &mut S) {
+        self.put_boxes(sink);
+        put_volumes(sink, self.volumes);
+    }
 }

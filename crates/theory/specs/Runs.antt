@@ -4,8 +4,8 @@ use Rattle.chain.specs.Chains.{Meaning, Lawful}
 use Rattle.chain.specs.declared.refusal.Refusal.{Refusal}
 use Rattle.theory.specs.declared.verdict.Verdict.TheVariants.{Safe, Unsafe}
 use Rattle.theory.specs.declared.record.BoxRecord.{BoxRecord}
-use Rattle.theory.specs.declared.record.Answer.{Answer}
-use Rattle.theory.specs.declared.record.Answer.TheVariants.{Done, Refused, Count, Found, Measured}
+use Rattle.theory.specs.declared.record.Reply.{Reply}
+use Rattle.theory.specs.declared.record.Reply.TheVariants.{Done, Count, Found, Measured}
 use Rattle.theory.specs.Boxes.{Box, Proper, Setting, Inside}
 use Rattle.theory.specs.Chance.{KeepsTo, Exceeds}
 use Rattle.theory.specs.Maps.{MapValue, new_map, laid_box, box_at, sides_of, laid_out, split, safe_call, unsafe_call, box_answer, volume, volumes, no_volumes}
@@ -38,23 +38,26 @@ or_kept m (Err e) = m
 abbrev pub after : Meaning → MapValue → Command → MapValue
 after c m k = or_kept m (changed c m k)
 
--- ---- what they answer
+-- ---- what they answer: a refusal, or what is told where the call is taken
+abbrev pub Answer : Type 0
+Answer = Result Reply Refusal
+
 abbrev pub done : Result MapValue Refusal → Answer
-done (Ok m) = Done
-done (Err e) = Refused e
+done (Ok m) = Ok Done
+done (Err e) = Err e
 
 abbrev pub found : Result BoxRecord Refusal → Answer
-found (Ok b) = Found b
-found (Err e) = Refused e
+found (Ok b) = Ok (Found b)
+found (Err e) = Err e
 
 abbrev pub answer : Meaning → MapValue → Command → Answer
 answer c m (lay_out G L sides) = done (laid_out c m G L sides)
 answer c m (cut i r x) = done (split c m i r x)
 answer c m (show_safe i v) = done (safe_call c m i v)
 answer c m (show_unsafe i v w) = done (unsafe_call c m i v w)
-answer c m count_boxes = Count (length m.boxes)
+answer c m count_boxes = Ok (Count (length m.boxes))
 answer c m (find_box i) = found (box_answer m i)
-answer c m measure = Measured (volumes c.rates m.boxes no_volumes)
+answer c m measure = Ok (Measured (volumes c.rates m.boxes no_volumes))
 
 -- ---- runs
 abbrev pub run_from : Meaning → MapValue → List Command → MapValue
@@ -77,11 +80,11 @@ as_made c = record { grid = 1; limit = 0; field = laid_box c.rates (0 ∷ 1 ∷ 
 
 -- a lay out that is taken sets them, and no other call does
 abbrev pub set_by : Meaning → Layout → Command → Answer → Layout
-set_by c l (lay_out G L sides) Done = record { grid = G; limit = L; field = laid_box c.rates sides }
-set_by c l (lay_out G L sides) (Refused e) = l
-set_by c l (lay_out G L sides) (Count n) = l
-set_by c l (lay_out G L sides) (Found b) = l
-set_by c l (lay_out G L sides) (Measured t) = l
+set_by c l (lay_out G L sides) (Ok Done) = record { grid = G; limit = L; field = laid_box c.rates sides }
+set_by c l (lay_out G L sides) (Ok (Count n)) = l
+set_by c l (lay_out G L sides) (Ok (Found b)) = l
+set_by c l (lay_out G L sides) (Ok (Measured t)) = l
+set_by c l (lay_out G L sides) (Err e) = l
 set_by c l (cut i r x) a = l
 set_by c l (show_safe i v) a = l
 set_by c l (show_unsafe i v w) a = l

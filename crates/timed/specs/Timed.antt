@@ -8,7 +8,10 @@ use Rattle.chain_format.specs.Format.{File, meaning}
 use Rattle.chain_writer.specs.Wrote.{Wrote}
 use Rattle.theory.specs.Maps.{MapValue, new_map, laid_out}
 use Rattle.theory.specs.Runs.{or_kept}
-use Rattle.rate_map.specs.Calls.{safe_on, unsafe_on}
+use Rattle.theory.specs.declared.verdict.Verdict.{Verdict}
+use Rattle.theory.specs.Boxes.{Box}
+use Rattle.theory.specs.Answers.{safe_answer, unsafe_answer}
+use Rattle.rate_map.specs.Calls.{witness_on}
 
 abbrev pub result_number : {A : Type 0} → Result A Refusal → ℕ
 result_number (Ok a) = 0
@@ -22,12 +25,15 @@ open_number (got f to) = 0
 abbrev pub laid_map : Meaning → ℕ → ℕ → List ℕ → MapValue
 laid_map c G L sides = or_kept (new_map c) (laid_out c (new_map c) G L sides)
 
--- a witness for box 0 of it
+-- a witness that answers so, for box 0 of it
+abbrev pub witness_number : (Meaning → ℕ → Box → ℕ → Result Verdict Refusal) → Meaning → ℕ → ℕ → List ℕ → ℕ
+witness_number answer c G L sides = result_number (witness_on c (laid_map c G L sides) 0 (answer c))
+
 abbrev pub safe_number : Meaning → ℕ → ℕ → List ℕ → List ℕ → ℕ
-safe_number c G L sides v = result_number (safe_on c (laid_map c G L sides) 0 v)
+safe_number c G L sides v = witness_number (λ c G b L. safe_answer c G b L v) c G L sides
 
 abbrev pub unsafe_number : Meaning → ℕ → ℕ → List ℕ → List ℕ → List ℕ → ℕ
-unsafe_number c G L sides v w = result_number (unsafe_on c (laid_map c G L sides) 0 v w)
+unsafe_number c G L sides v w = witness_number (λ c G b L. unsafe_answer c G b L v w) c G L sides
 
 -- over the chain of a file
 abbrev pub over_file : Read File → (Meaning → ℕ) → ℕ

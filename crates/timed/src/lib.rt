@@ -3,13 +3,16 @@
 #![tactic(auto)]
 
 ghost use Rattle.std.specs.Prelude.{◌≡◌, ℕ};
+ghost use Rattle.std.specs.Result.{result_unwrap_or};
 ghost use Rattle.chain_format.specs.Format.{opened, taken};
-ghost use Rattle.timed.specs.Timed.{result_number, open_number, safe_number, unsafe_number, over_file, WritesAgain};
+ghost use Rattle.timed.specs.Timed.{result_number, open_number, witness_number, safe_number, unsafe_number, over_file, WritesAgain};
 
-use chain::interface::Chain;
 use chain::refusal::Refusal;
 use chain_file::stored::StoredChain;
 use rate_map::map::OpenMap;
+use witness::judge::Witness;
+use witness::judge::exceeding::UnsafeWitness;
+use witness::judge::safe::SafeWitness;
 
 fn number_of(res: Result<(), Refusal>) -> u32
     ensures { result ≡ result_number res }
@@ -20,29 +23,30 @@ fn number_of(res: Result<(), Refusal>) -> u32
     }
 }
 
-// A safe witness for the field of a new map.
-fn judge_safe<C: Chain + Drop>(chain: C, grid: u32, limit: u32, sides: &[u32], v: &[u32]) -> u32
-    ensures { result ≡ safe_number (C.meaning chain) grid limit sides.now v.now }
-{
-    let mut map = OpenMap::new(chain);
-    let _ = map.lay_out(grid, limit, sides);
-    number_of(map.safe_witness(0, v))
-}
-
-// An unsafe witness for the field of a new map.
-fn judge_unsafe<C: Chain + Drop>(
-    chain: C,
+// Opens a file and judges a witness for a field, on a new map.
+fn judge<W: Witness>(
+    file: &[u8],
     grid: u32,
     limit: u32,
     sides: &[u32],
-    v: &[u32],
-    w: &[u32],
-) -> u32
-    ensures { result ≡ unsafe_number (C.meaning chain) grid limit sides.now v.now w.now }
+    witness: &W,
+) -> Result<(), Refusal>
+    ensures { result_number result ≡ over_file (opened file.now) (λ c. witness_number (W.answer witness.now) c grid limit sides.now) }
 {
+    let mut chain = StoredChain::new();
+    chain.open(file)?;
     let mut map = OpenMap::new(chain);
     let _ = map.lay_out(grid, limit, sides);
-    number_of(map.unsafe_witness(0, v, w))
+    map.witness(0, witness)
+}
+
+// Opens a file and writes it again into a buffer; tells its length.
+fn write_again(file: &[u8], buffer: &mut [u8]) -> Result<usize, Refusal>
+    ensures { WritesAgain (taken (opened file.now)) file.now buffer.old buffer.new (result_unwrap_or result 0) }
+{
+    let mut chain = StoredChain::new();
+    chain.open(file)?;
+    chain.write(buffer)
 }
 
 // Opens a file.
@@ -60,14 +64,7 @@ pub extern "C" fn ratemap_open(file: &[u8]) -> u32
 pub extern "C" fn ratemap_write(file: &[u8], buffer: &mut [u8]) -> usize
     ensures { WritesAgain (taken (opened file.now)) file.now buffer.old buffer.new result }
 {
-    let mut chain = StoredChain::new();
-    match chain.open(file) {
-        Ok(()) => match chain.write(buffer) {
-            Ok(length) => length,
-            Err(_) => 0,
-        },
-        Err(_) => 0,
-    }
+    write_again(file, buffer).unwrap_or(0)
 }
 
 // Opens a file and judges a safe witness for a field.
@@ -75,11 +72,7 @@ pub extern "C" fn ratemap_write(file: &[u8], buffer: &mut [u8]) -> usize
 pub extern "C" fn ratemap_safe(file: &[u8], grid: u32, limit: u32, sides: &[u32], v: &[u32]) -> u32
     ensures { result ≡ over_file (opened file.now) (λ c. safe_number c grid limit sides.now v.now) }
 {
-    let mut chain = StoredChain::new();
-    match chain.open(file) {
-        Ok(()) => judge_safe(chain, grid, limit, sides, v),
-        Err(refusal) => refusal.number() as u32,
-    }
+    number_of(judge(file, grid, limit, sides, &SafeWitness { v }))
 }
 
 // Opens a file and judges an unsafe witness for a field.
@@ -94,9 +87,5 @@ pub extern "C" fn ratemap_unsafe(
 ) -> u32
     ensures { result ≡ over_file (opened file.now) (λ c. unsafe_number c grid limit sides.now v.now w.now) }
 {
-    let mut chain = StoredChain::new();
-    match chain.open(file) {
-        Ok(()) => judge_unsafe(chain, grid, limit, sides, v, w),
-        Err(refusal) => refusal.number() as u32,
-    }
+    number_of(judge(file, grid, limit, sides, &UnsafeWitness { v, w }))
 }

@@ -40,15 +40,6 @@ module _ (w : Width) where
       → to_z w (of_z w (to_z w n *ℤ to_z w (of_z w z))) ≡ n · z
   product_is n z h f b = rw (to_z_pos w n h, to_z-of_z w z f) (to_z-of_z w (n · z) (fits w (n · z) b))
 
-  -- a sum of two results
-  pub sum_fits : (x y : ℤ) → SFits w x → SFits w y → nat_abs x + nat_abs y < 2 ^ hbits w
-      → SFits w (to_z w (of_z w x) +ℤ to_z w (of_z w y))
-  sum_fits x y f g b = rw (to_z-of_z w x f, to_z-of_z w y g) (fits w (x +ℤ y) (omega (arith, nat_abs_add x y)))
-
-  pub sum_is : (x y : ℤ) → SFits w x → SFits w y → nat_abs x + nat_abs y < 2 ^ hbits w
-      → to_z w (of_z w (to_z w (of_z w x) +ℤ to_z w (of_z w y))) ≡ x +ℤ y
-  sum_is x y f g b = rw (to_z-of_z w x f, to_z-of_z w y g) (to_z-of_z w (x +ℤ y) (fits w (x +ℤ y) (omega (arith, nat_abs_add x y))))
-
   -- a running sum, whose bits stand for s
   pub onto-is : (n : ℕ) (s x : ℤ) → to_z w n ≡ s → SFits w x → nat_abs s + nat_abs x < 2 ^ hbits w
       → to_z w (of_z w (to_z w n +ℤ to_z w (of_z w x))) ≡ s +ℤ x

@@ -1,5 +1,5 @@
 -- A table of coefficients as its rates are set, in place.
-use Rattle.std.proofs.Common.{◌≡◌, ℕ, zero, suc, ◌+◌, ◌-◌, ◌*◌, ◌/◌, ◌^◌, ◌<◌, ◌≤◌, ◌≢◌, List, [], ◌∷◌, ◌++◌, length, take, set, ℤ, pos, ◌+ℤ◌, nat_abs, sym, refl, ap, ◌∙◌, subst, inl, inr, zero-le, pow-suc, arith, get_or-set_other, get_or-set_same, w64, SFits, to_z, of_z, below_more}
+use Rattle.std.proofs.Common.{◌≡◌, ℕ, zero, suc, ◌+◌, ◌-◌, ◌*◌, ◌/◌, ◌^◌, ◌<◌, ◌≤◌, List, [], ◌∷◌, ◌++◌, length, take, ℤ, pos, ◌+ℤ◌, nat_abs, sym, refl, ap, ◌∙◌, subst, inl, inr, zero-le, pow-suc, arith, w64, to_z, of_z}
 use Rattle.std.proofs.lemmas.Int.{to_z-of_z}
 use Rattle.std.proofs.lemmas.Bool.Decides.{leb_tells}
 use Rattle.std.proofs.lemmas.List.{get_or_append_left, get_or-append_right, length-append, get_or_past, get_or-take, length-take-le}
@@ -14,20 +14,6 @@ use Rattle.witness.proofs.Signs.{nat_abs_add, times_small, fits}
 abbrev pub SetTo : ℕ → ℕ → List ℤ → List ℤ → List ℤ → ℕ → Type 0
 SetTo G g low start high i =
     ((k : ℕ) → k < i → entry low k ≡ G · entry start k +ℤ g · entry high k) × ((k : ℕ) → i ≤ k → entry low k ≡ entry start k)
-
-pub set_more : (G g : ℕ) (low start high : List ℤ) (i : ℕ) (z : ℤ) → i < length low → z ≡ G · entry start i +ℤ g · entry high i
-    → SetTo G g low start high i → SetTo G g (set low i z) start high (i + 1)
-set_more G g low start high i z h e inv = (
-  below_more _ i
-      (λ k l. let ne : k ≢ i = omega arith in get_or-set_other low i k z (pos 0) ne ∙ inv.0 k l)
-      (get_or-set_same low i z (pos 0) h ∙ e),
-  λ k l. let ne : k ≢ i = omega arith in get_or-set_other low i k z (pos 0) ne ∙ inv.1 k (omega arith),
-)
-
--- what `mixed` says of an entry as it is, said of the entry as it was
-pub mixed_of : (G g : ℕ) (r a b a' : ℤ) → SFits w64 a → SFits w64 b → a ≡ a'
-    → r ≡ G · to_z w64 (of_z w64 a) +ℤ g · to_z w64 (of_z w64 b) → r ≡ G · a' +ℤ g · b
-mixed_of G g r a b a' fa fb p e = e ∙ ap (λ z. G · z +ℤ g · to_z w64 (of_z w64 b)) (to_z-of_z w64 a fa ∙ p) ∙ ap (λ z. G · a' +ℤ g · z) (to_z-of_z w64 b fb)
 
 -- ---- bounds
 pub room_most : (j : ℕ) → 1 ≤ j → j ≤ 3 → (room j ≤ 2 ^ 40) × (2000 * room j ≡ room (j - 1))
@@ -152,14 +138,17 @@ front-small (suc n) b B (x ∷ xs) h s (suc k) = front-small n b B xs h (λ i. s
 pub front-worth : (G n j : ℕ) (g : ℕ → ℕ) (xs : List ℤ) → n ≡ 2 ^ j → eval G g j (entry (take n xs)) ≡ eval G g j (entry xs)
 front-worth G n j g xs e = eval_same G g j _ _ (λ i h. get_or-take n xs i (pos 0) (omega arith))
 
--- ---- a table of one rate
-pub kept_small : (z : ℤ) → nat_abs z ≤ room 1 → nat_abs (to_z w64 (of_z w64 z)) ≤ 2 ^ 40
-kept_small z h = rw (to_z-of_z w64 z (fits w64 z (omega arith))) (omega arith)
+-- the numbers of the rates that are named, and a table for them, as the fronts of their arrays
+pub fronts-worth : (G n j : ℕ) (numbers : List ℕ) (xs : List ℤ) → j ≤ length numbers → n ≡ 2 ^ j
+    → eval G (at (take j numbers)) (length (take j numbers)) (entry (take n xs)) ≡ eval G (at numbers) j (entry xs)
+fronts-worth G n j numbers xs long e =
+    ap (λ k. eval G (at (take j numbers)) k (entry (take n xs))) (length-take-le j numbers long)
+    ∙ eval-at G (at (take j numbers)) (at numbers) j (entry (take n xs)) (λ p h. get_or-take j numbers p 0 h)
+    ∙ front-worth G n j (at numbers) xs e
 
-pub only_rate : (G : ℕ) (point : List ℕ) (table : List ℤ) (r : ℤ) → length point ≡ 1 → G ≤ 1000 → at point 0 ≤ 1000 → Small (room 1) table
-    → r ≡ G · to_z w64 (of_z w64 (entry table 0)) +ℤ at point 0 · to_z w64 (of_z w64 (entry table 1))
-    → (r ≡ eval G (at point) (length point) (entry table)) × (nat_abs r ≤ room 0)
-only_rate G point table r one hG hg small e =
-    let f : r ≡ G · entry table 0 +ℤ at point 0 · entry table 1 =
-    mixed_of G (at point 0) r (entry table 0) (entry table 1) (entry table 0) (fits w64 (entry table 0) (omega (arith, small 0))) (fits w64 (entry table 1) (omega (arith, small 1))) refl e in
-    (f ∙ sym (ap (λ n. eval G (at point) n (entry table)) one), rw f (mix_small G (at point 0) (room 1) (entry table 0) (entry table 1) hG hg (small 0) (small 1)))
+-- ---- a table of one rate
+pub only_small : (G : ℕ) (point : List ℕ) (table : List ℤ) (r : ℤ) → G ≤ 1000 → at point 0 ≤ 1000 → Small (room 1) table
+    → r ≡ G · to_z w64 (of_z w64 (entry table 0)) +ℤ at point 0 · to_z w64 (of_z w64 (entry table 1)) → nat_abs r ≤ room 0
+only_small G point table r hG hg small e =
+    rw (e, to_z-of_z w64 (entry table 0) (fits w64 (entry table 0) (omega (arith, small 0))), to_z-of_z w64 (entry table 1) (fits w64 (entry table 1) (omega (arith, small 1))))
+    (mix_small G (at point 0) (room 1) (entry table 0) (entry table 1) hG hg (small 0) (small 1))

@@ -1,3 +1,5 @@
 pub mod Judged
 pub mod Regions
 pub mod Rows
+pub mod Tests
+pub mod Rights

@@ -24,11 +24,7 @@ pub(crate) trait Claim {
 pub(crate) fn number_at(v: &[u32], state: u32) -> u32
     ensures { result ≡ at v.now state }
 {
-    if (state as usize) < v.len() {
-        v[state as usize]
-    } else {
-        0
-    }
+    v.get(state as usize).copied().unwrap_or(0)
 }
 
 // Whether a state is not bad and has a number above 0.
@@ -92,12 +88,12 @@ impl<'a> Claim for AtLeast<'a> {
 
 // One more than the sum is at most the state's number of rounds, at the states that at least tests.
 #[derive(Clone, Copy)]
-pub(crate) struct Steps<'a, 'b> {
+pub(crate) struct Steps<'a> {
     pub v: &'a [u32],
-    pub w: &'b [u32],
+    pub w: &'a [u32],
 }
 
-impl<'a, 'b> Claim for Steps<'a, 'b> {
+impl<'a> Claim for Steps<'a> {
     ghost said = { λ c. steps (at c.v.now) (at c.w.now) };
 
     fn tests(&self, marked: bool, state: u32) -> bool {

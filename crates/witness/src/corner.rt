@@ -1,32 +1,41 @@
 // The corners of a row, by number: bit p of the number is set where the row's rate number p is high.
-ghost use Rattle.std.specs.Prelude.{◌≡◌, ℕ, ◌<◌, ◌≤◌, ◌==◌};
-ghost use Rattle.theory.specs.Boxes.{corner_of};
-ghost use Rattle.theory.specs.Values.{bit};
+ghost use Rattle.std.specs.Prelude.{◌≡◌, ℕ, ◌<◌, ◌≤◌, ◌==◌, length, unsigned_abs};
+ghost use Rattle.theory.specs.Values.{bit, eval};
 ghost use Rattle.theory.specs.Witness.{at};
-ghost use Rattle.witness.specs.Regions.{box_of};
-ghost use Rattle.witness.specs.Rows.{row_of, Readable};
+ghost use Rattle.witness.specs.Rows.{entry, Small, room};
 
-use crate::region::Region;
-use crate::value::table_size;
-use chain::record::RowRecord;
+use crate::value::{value, widened};
+use chain::record::{COEFFICIENTS, RATES};
 
 // Whether the row's rate number p is high at a corner.
-fn is_high(corner: u32, p: usize) -> bool
+pub(crate) fn is_high(corner: u32, p: usize) -> bool
     requires { p ≤ 2 }
     ensures { result ≡ (bit p corner == 1) }
 {
-    corner / table_size(p) as u32 % 2 == 1
+    corner >> p & 1 == 1
 }
 
-// The grid numbers of the row's rates at a corner.
-pub(crate) fn corner(region: &Region, row: &RowRecord, number: u32) -> [u32; 3]
-    requires { Readable region.now.rates row.now }
-    ensures point { (p : ℕ) → p < row.now.rate_count → at result p ≡ corner_of (box_of region.now) (row_of row.now) number p }
-    ensures few { (p : ℕ) → at result p ≤ 1000 }
-{
-    [
-        region.side(row.rates[0], is_high(number, 0)),
-        region.side(row.rates[1], is_high(number, 1)),
-        region.side(row.rates[2], is_high(number, 2)),
-    ]
+// The rates of a row at a corner, as numbers on a grid.
+#[derive(Clone, Copy)]
+pub(crate) struct Point {
+    pub grid: u32,
+    pub numbers: [u32; RATES],
+    pub named: u8,
+    ghost grid_few: { grid ≤ 1000 },
+    ghost numbers_few: { (p : ℕ) → at numbers p ≤ 1000 },
+    ghost numbers_long: { length numbers ≡ 3 },
+    ghost named_few: { named ≤ 3 },
+}
+
+impl Point {
+    // The value of an edge's coefficients.
+    pub(crate) fn value(&self, coefficients: &[i16; COEFFICIENTS]) -> i64
+        requires { Small 8000 coefficients.now }
+        ensures worth { result ≡ eval self.now.grid (at self.now.numbers) self.now.named (entry coefficients.now) }
+        ensures bound { unsigned_abs result ≤ room 0 }
+    {
+        let named = self.named as usize;
+        let mut table = widened(coefficients);
+        value(self.grid, &self.numbers[..named], &mut table[..1 << named])
+    }
 }

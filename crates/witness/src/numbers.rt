@@ -4,6 +4,7 @@ ghost use Rattle.theory.specs.Words.{lowest};
 ghost use Rattle.theory.specs.Answers.{numbers_ok};
 
 use crate::claim::number_at;
+use crate::lowest::lowest;
 use crate::told::is_bad;
 use chain::interface::Chain;
 
@@ -18,14 +19,11 @@ fn numbers_ok(marked: bool, v: u32, w: u32) -> bool
 pub(crate) fn first_bad_number<C: Chain>(chain: &C, v: &[u32], w: &[u32]) -> Option<u32>
     ensures { result ≡ lowest (numbers_ok (C.meaning chain.now) v.now w.now) (C.meaning chain.now).states }
 {
-    for state in 0..chain.states() {
-        if !numbers_ok(
+    lowest(chain.states(), |state| {
+        numbers_ok(
             is_bad(chain, state),
             number_at(v, state),
             number_at(w, state),
-        ) {
-            return Some(state);
-        }
-    }
-    None
+        )
+    })
 }

@@ -1,5 +1,4 @@
 ghost use Rattle.std.specs.Prelude.{◌≡◌};
-ghost use Rattle.chain.specs.Chains.{looping};
 ghost use Rattle.chain.specs.Filled.{filled};
 ghost use Rattle.worked.specs.Samples.{relay_row, doubled_row, forked, meaning_of};
 ghost use Rattle.worked.specs.SampleLaws.{samples_lawful};
@@ -14,24 +13,6 @@ pub enum Sample {
     Relay,
     Single,
     Doubled,
-}
-
-// The row of a state that no step leaves.
-fn looping_row(state: u32) -> RowRecord
-    ensures { result ≡ filled (looping 1 state) }
-{
-    let stay = EdgeRecord {
-        successor: state,
-        coefficients: [1, 0, 0, 0, 0, 0, 0, 0],
-    };
-    RowRecord {
-        rate_count: 0,
-        rates: [0, 0, 0],
-        edge_count: 1,
-        edges: [
-            stay, NO_EDGE, NO_EDGE, NO_EDGE, NO_EDGE, NO_EDGE, NO_EDGE, NO_EDGE,
-        ],
-    }
 }
 
 // A row that names one rate and has two edges.
@@ -75,7 +56,7 @@ fn relay_row(state: u32) -> RowRecord
             };
             fork_row(1, hands_back, fails)
         }
-        _ => looping_row(state),
+        _ => RowRecord::looping(state),
     }
 }
 
@@ -95,7 +76,7 @@ fn doubled_row(state: u32) -> RowRecord
             };
             fork_row(0, stays, leaves)
         }
-        _ => looping_row(state),
+        _ => RowRecord::looping(state),
     }
 }
 
@@ -115,24 +96,19 @@ impl Chain for Sample {
     fn rates(&self) -> u32 {
         match self {
             Sample::Relay => 2,
-            Sample::Single => 1,
-            Sample::Doubled => 1,
+            Sample::Single | Sample::Doubled => 1,
         }
     }
 
     fn unit(&self) -> u32 {
         match self {
-            Sample::Relay => 1,
-            Sample::Single => 1,
-            Sample::Doubled => 1,
+            Sample::Relay | Sample::Single | Sample::Doubled => 1,
         }
     }
 
     fn start(&self) -> u32 {
         match self {
-            Sample::Relay => 0,
-            Sample::Single => 0,
-            Sample::Doubled => 0,
+            Sample::Relay | Sample::Single | Sample::Doubled => 0,
         }
     }
 
@@ -141,9 +117,8 @@ impl Chain for Sample {
             return Err(Refusal::NoState);
         }
         match self {
-            Sample::Relay => Ok(if state == 2 { 1 } else { 0 }),
-            Sample::Single => Ok(0),
-            Sample::Doubled => Ok(0),
+            Sample::Relay => Ok(u8::from(state == 2)),
+            Sample::Single | Sample::Doubled => Ok(0),
         }
     }
 
@@ -153,7 +128,7 @@ impl Chain for Sample {
         }
         *into = match self {
             Sample::Relay => relay_row(state),
-            Sample::Single => looping_row(state),
+            Sample::Single => RowRecord::looping(state),
             Sample::Doubled => doubled_row(state),
         };
         Ok(())

@@ -2,7 +2,6 @@ ghost use Rattle.pass_line.specs.Line.{line};
 ghost use Rattle.pass_line.specs.LineLaw.{line_lawful};
 
 use crate::line::PassLine;
-use crate::line::rows::end_row;
 use chain::interface::Chain;
 use chain::record::RowRecord;
 use chain::refusal::Refusal;
@@ -41,10 +40,8 @@ impl Chain for PassLine {
         let late = self.tries() + 1;
         if state > late {
             Err(Refusal::NoState)
-        } else if state == late {
-            Ok(1)
         } else {
-            Ok(0)
+            Ok(u8::from(state == late))
         }
     }
 
@@ -56,7 +53,7 @@ impl Chain for PassLine {
         let row = if state < tries {
             self.try_row(state)
         } else {
-            end_row(state)
+            RowRecord::looping(state)
         };
         *into = row;
         Ok(())

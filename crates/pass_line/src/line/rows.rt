@@ -1,5 +1,4 @@
 ghost use Rattle.std.specs.Prelude.{◌≡◌, ◌<◌, ◌≤◌};
-ghost use Rattle.chain.specs.Chains.{looping};
 ghost use Rattle.chain.specs.Filled.{filled};
 ghost use Rattle.pass_line.specs.Line.{tries, next_pass, repeatable, final, try_row};
 
@@ -89,24 +88,6 @@ fn final_row(onward: u32, late: u32) -> RowRecord
         edge_count: 2,
         edges: [
             onward, late, NO_EDGE, NO_EDGE, NO_EDGE, NO_EDGE, NO_EDGE, NO_EDGE,
-        ],
-    }
-}
-
-// The row of an end, which loops.
-pub(super) fn end_row(state: u32) -> RowRecord
-    ensures { result ≡ filled (looping 1 state) }
-{
-    let stay = EdgeRecord {
-        successor: state,
-        coefficients: [1, 0, 0, 0, 0, 0, 0, 0],
-    };
-    RowRecord {
-        rate_count: 0,
-        rates: [0, 0, 0],
-        edge_count: 1,
-        edges: [
-            stay, NO_EDGE, NO_EDGE, NO_EDGE, NO_EDGE, NO_EDGE, NO_EDGE, NO_EDGE,
         ],
     }
 }

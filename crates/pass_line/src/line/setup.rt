@@ -1,4 +1,4 @@
-ghost use Rattle.std.specs.Prelude.{◌≡◌, MatchResult};
+ghost use Rattle.std.specs.Prelude.{◌≡◌, ◌↔◌, IsOk, IfErr, OnOk, OnErr};
 ghost use Rattle.chain.specs.declared.refusal.Refusal.TheVariants.{BadPasses};
 ghost use Rattle.pass_line.specs.Line.{Fit};
 
@@ -19,7 +19,10 @@ impl PassLine {
 
     // Sets the passes, 1 to 64, and the repeats, 0 to 31. A pair out of range is refused, and the line stays as it was.
     pub fn set(&mut self, passes: u32, repeats: u32) -> Result<(), Refusal>
-        ensures { MatchResult result (λ _. Fit passes repeats × (self.new.passes ≡ passes) × (self.new.repeats ≡ repeats)) (λ e. (Fit passes repeats → ⊥) × (e ≡ BadPasses) × (self.new.passes ≡ self.old.passes) × (self.new.repeats ≡ self.old.repeats)) }
+        ensures taken { IsOk result ↔ Fit passes repeats }
+        ensures set { OnOk result ((self.new.passes ≡ passes) × (self.new.repeats ≡ repeats)) }
+        ensures refused { IfErr result (λ e. e ≡ BadPasses) }
+        ensures kept { OnErr result (self.new ≡ self.old) }
     {
         if passes < 1 || passes > 64 || repeats > 31 {
             return Err(Refusal::BadPasses);

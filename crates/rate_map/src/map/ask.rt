@@ -1,41 +1,27 @@
 // Questions: what a map tells of its boxes. They change nothing.
-ghost use Rattle.std.specs.Prelude.{◌≡◌, ℕ, ◌+◌, ◌-◌, ◌*◌, ◌^◌, ◌<◌, ◌≤◌, length, slice_index};
-ghost use Rattle.theory.specs.Maps.{MapValue, volume as volume_of, volumes as volumes_of, counted, no_volumes};
-ghost use Rattle.theory.specs.Witness.{at};
-ghost use Rattle.rate_map.specs.Values.{open_value, closed_value, used};
+ghost use Rattle.std.specs.Prelude.{◌≡◌, ◌+◌, ◌^◌, ◌≤◌, length};
+ghost use Rattle.theory.specs.Maps.{volume as volume_of, volumes as volumes_of, counted, no_volumes, box_answer};
+ghost use Rattle.rate_map.specs.Values.{Few, map_value};
 ghost use Rattle.rate_map.specs.Calls.{FoundIn};
 
-use crate::map::{ClosedMap, OpenMap};
-use crate::table::Table;
+use crate::map::RateMap;
 use chain::interface::Chain;
 use chain::refusal::Refusal;
 use theory::record::{BoxRecord, Volumes};
 use theory::verdict::Verdict;
 
-// The width of a side.
-fn width(b: &BoxRecord, r: usize) -> u64
-    requires rate { r < 4 }
-    requires few { (k : ℕ) → slice_index b.now.high k ≤ 1000 }
-    ensures width { result ≡ at b.now.high r - at b.now.low r }
-    ensures few { result ≤ 1000 }
-{
-    b.high[r].saturating_sub(b.low[r]) as u64
-}
-
 // The product of the widths.
 fn volume(rates: u32, b: &BoxRecord) -> u64
     requires rates { rates ≤ 4 }
-    requires few { (k : ℕ) → slice_index b.now.high k ≤ 1000 }
+    requires few { Few b.now }
     ensures product { result ≡ volume_of rates b.now }
     ensures few { result ≤ 2 ^ 40 }
 {
-    match rates {
-        0 => 1,
-        1 => width(b, 0),
-        2 => width(b, 0) * width(b, 1),
-        3 => width(b, 0) * width(b, 1) * width(b, 2),
-        _ => width(b, 0) * width(b, 1) * width(b, 2) * width(b, 3),
+    let mut product = 1;
+    for (low, high) in b.low[..rates as usize].iter().zip(&b.high) {
+        product *= high.saturating_sub(*low) as u64;
     }
+    product
 }
 
 // One volume more, under its verdict.
@@ -49,101 +35,61 @@ fn count_volume(t: Volumes, verdict: Verdict, n: u64) -> Volumes
 {
     match verdict {
         Verdict::Open => Volumes {
-            safe: t.safe,
-            exceeding: t.exceeding,
             pending: t.pending + n,
+            ..t
         },
-        Verdict::Safe { bound: _ } => Volumes {
+        Verdict::Safe { .. } => Volumes {
             safe: t.safe + n,
-            exceeding: t.exceeding,
-            pending: t.pending,
+            ..t
         },
-        Verdict::Unsafe { bound: _, steps: _ } => Volumes {
-            safe: t.safe,
+        Verdict::Unsafe { .. } => Volumes {
             exceeding: t.exceeding + n,
-            pending: t.pending,
+            ..t
         },
     }
 }
 
-// The volumes of the boxes in use, by verdict.
-fn measure(rates: u32, table: &Table) -> Volumes
-    requires { rates ≤ 4 }
-    ensures { result ≡ volumes_of rates (used table.now) no_volumes }
-{
-    let boxes = table.boxes();
-    let mut total = Volumes {
-        safe: 0,
-        exceeding: 0,
-        pending: 0,
-    };
-    for b in boxes {
-        total = count_volume(total, b.verdict, volume(rates, b));
-    }
-    total
-}
-
-// The number of boxes in use.
-fn count(table: &Table) -> u32
-    ensures { result ≡ length (used table.now) }
-{
-    table.len() as u32
-}
-
-// One box into a record.
-fn find(table: &Table, number: u32, into: &mut BoxRecord) -> Result<(), Refusal>
-    ensures { (m : MapValue) → m.boxes ≡ used table.now → FoundIn m number into.old result into.new }
-{
-    let i = number as usize;
-    if i >= table.len() {
-        return Err(Refusal::NoBox);
-    }
-    *into = table.at(i);
-    Ok(())
-}
-
-impl<C: Chain> OpenMap<C> {
+impl<C: Chain, S> RateMap<C, S> {
     // The number of boxes.
     pub fn count(&self) -> u32
-        ensures { result ≡ length (open_value self.now).boxes }
+        ensures { result ≡ length (map_value self.now).boxes }
     {
-        count(&self.table)
+        self.table.len() as u32
+    }
+
+    // One box; 9 where there is none.
+    pub(crate) fn one(&self, number: u32) -> Result<BoxRecord, Refusal>
+        ensures { result ≡ box_answer (map_value self.now) number }
+    {
+        let i = number as usize;
+        if i < self.table.len() {
+            Ok(self.table.at(i))
+        } else {
+            Err(Refusal::NoBox)
+        }
     }
 
     // Fills a record with one box; 9 where there is none.
     pub fn find(&self, number: u32, into: &mut BoxRecord) -> Result<(), Refusal>
-        ensures { FoundIn (open_value self.now) number into.old result into.new }
+        ensures { FoundIn (map_value self.now) number into.old result into.new }
     {
-        find(&self.table, number, into)
+        *into = self.one(number)?;
+        Ok(())
     }
 
     // The volumes of the boxes, by verdict.
     pub fn measure(&self) -> Volumes
-        ensures { result ≡ volumes_of (C.meaning self.now.chain).rates (open_value self.now).boxes no_volumes }
+        ensures { result ≡ volumes_of (C.meaning self.now.chain).rates (map_value self.now).boxes no_volumes }
     {
-        measure(self.chain.rates(), &self.table)
-    }
-}
-
-impl<C: Chain> ClosedMap<C> {
-    // The number of boxes.
-    pub fn count(&self) -> u32
-        ensures { result ≡ length (closed_value self.now).boxes }
-    {
-        count(&self.table)
-    }
-
-    // Fills a record with one box; 9 where there is none.
-    pub fn find(&self, number: u32, into: &mut BoxRecord) -> Result<(), Refusal>
-        ensures { FoundIn (closed_value self.now) number into.old result into.new }
-    {
-        find(&self.table, number, into)
-    }
-
-    // The volumes of the boxes, by verdict.
-    pub fn measure(&self) -> Volumes
-        ensures { result ≡ volumes_of (C.meaning self.now.chain).rates (closed_value self.now).boxes no_volumes }
-    {
-        measure(self.chain.rates(), &self.table)
+        let rates = self.chain.rates();
+        let mut total = Volumes {
+            safe: 0,
+            exceeding: 0,
+            pending: 0,
+        };
+        for b in self.table.boxes() {
+            total = count_volume(total, b.verdict, volume(rates, b));
+        }
+        total
     }
 }

@@ -1,16 +1,11 @@
-ghost use Rattle.std.specs.Prelude.{◌≡◌, ℕ, ◌+◌, ◌<◌, ◌≤◌, [], ◌∷◌, length, slice_index, slice_index_or, slice_set};
-ghost use Rattle.theory.specs.Maps.{no_box, box_at, judged, low_half, high_half, cut_boxes};
-ghost use Rattle.rate_map.specs.Values.{used};
+ghost use Rattle.std.specs.Prelude.{◌≡◌, ℕ, ◌+◌, ◌<◌, ◌≤◌, [], ◌∷◌, length, slice_set};
+ghost use Rattle.theory.specs.Maps.{box_at, judged, low_half, high_half, cut_boxes};
+ghost use Rattle.rate_map.specs.Values.{Few, used};
 
 use super::Table;
+use arrayvec::ArrayVec;
 use theory::record::BoxRecord;
 use theory::verdict::Verdict;
-
-const NO_BOX: BoxRecord = BoxRecord {
-    low: [0, 0, 0, 0],
-    high: [0, 0, 0, 0],
-    verdict: Verdict::Open,
-};
 
 fn low_half(b: &BoxRecord, rate: usize, place: u32) -> BoxRecord
     requires { rate < 4 }
@@ -19,9 +14,9 @@ fn low_half(b: &BoxRecord, rate: usize, place: u32) -> BoxRecord
     let mut high = b.high;
     high[rate] = place;
     BoxRecord {
-        low: b.low,
         high,
         verdict: Verdict::Open,
+        ..*b
     }
 }
 
@@ -33,42 +28,42 @@ fn high_half(b: &BoxRecord, rate: usize, place: u32) -> BoxRecord
     low[rate] = place;
     BoxRecord {
         low,
-        high: b.high,
         verdict: Verdict::Open,
+        ..*b
     }
 }
 
 impl Table {
     // A table of one box.
     pub(crate) fn one(b: BoxRecord) -> Table
-        requires { (r : ℕ) → slice_index b.high r ≤ 1000 }
+        requires { Few b }
         ensures { used result ≡ b ∷ [] }
     {
-        let mut boxes = [NO_BOX; 128];
-        boxes[0] = b;
-        Table { boxes, used: 1 }
+        let mut boxes = ArrayVec::new();
+        boxes.push(b);
+        Table { boxes }
     }
 
     pub(crate) fn len(&self) -> usize
         ensures count { result ≡ length (used self.now) }
         ensures few { result ≤ 128 }
     {
-        self.used
+        self.boxes.len()
     }
 
     // The boxes in use.
     pub(crate) fn boxes(&self) -> &[BoxRecord]
         ensures same { result.now ≡ used self.now }
         ensures count { length result.now ≤ 128 }
-        ensures few { (i k : ℕ) → slice_index (slice_index_or result.now i no_box).high k ≤ 1000 }
+        ensures few { (i : ℕ) → Few (box_at result.now i) }
     {
-        &self.boxes[0..self.used]
+        self.boxes.as_slice()
     }
 
     pub(crate) fn at(&self, i: usize) -> BoxRecord
         requires { i < length (used self.now) }
         ensures found { result ≡ box_at (used self.now) i }
-        ensures few { (r : ℕ) → slice_index result.high r ≤ 1000 }
+        ensures few { Few result }
     {
         self.boxes[i]
     }
@@ -91,7 +86,6 @@ impl Table {
     {
         let b = self.boxes[i];
         self.boxes[i] = low_half(&b, rate, place);
-        self.boxes[self.used] = high_half(&b, rate, place);
-        self.used += 1;
+        self.boxes.push(high_half(&b, rate, place));
     }
 }

@@ -1,9 +1,8 @@
-ghost use Rattle.std.specs.Prelude.{◌≡◌, ℕ, ◌<◌, ◌≤◌, cond, ◌&&◌, length, Err, MatchResult, nat_le, nat_lt};
-ghost use Rattle.theory.specs.Words.{lowest};
+ghost use Rattle.std.specs.Prelude.{◌≡◌, ◌<◌, ◌≤◌, cond, ◌&&◌, Err, MatchResult, nat_le, nat_lt};
 ghost use Rattle.theory.specs.Witness.{at};
-ghost use Rattle.theory.specs.Maps.{side_ok};
 ghost use Rattle.witness.specs.Regions.{region_answer, Laid};
 
+use crate::lowest::lowest;
 use crate::region::{Region, Sides};
 use chain::refusal::Refusal;
 
@@ -13,39 +12,27 @@ fn side_ok(grid: u32, low: u32, high: u32) -> bool
     low < high && high <= grid
 }
 
-// The first rate whose sides are not low < high ≤ grid.
-fn first_bad_side(grid: u32, rates: u32, low: &[u32; 4], high: &[u32; 4]) -> Option<u32>
-    requires { rates ≤ 4 }
-    ensures { result ≡ lowest (side_ok grid low.now high.now) rates }
-{
-    for r in 0..rates {
-        if !side_ok(grid, low[r as usize], high[r as usize]) {
-            return Some(r);
-        }
-    }
-    None
-}
-
 impl Region {
     // A region, or a refusal of the grid (6) or of the sides or their count (7).
     pub fn new(grid: u32, rates: u32, low: Sides, high: Sides) -> Result<Region, Refusal>
         ensures { MatchResult result (Laid grid rates low high) (λ e. region_answer grid rates low high ≡ Err e) }
     {
-        if grid < 1 || grid > 1000 {
+        if !(1..=1000).contains(&grid) {
             return Err(Refusal::BadGrid);
         }
-        if rates < 1 || rates > 4 {
+        if !(1..=4).contains(&rates) {
             return Err(Refusal::BadField);
         }
-        match first_bad_side(grid, rates, &low, &high) {
-            Some(_) => Err(Refusal::BadField),
-            None => Ok(Region {
-                grid,
-                rates,
-                low,
-                high,
-            }),
+        let bad_side = lowest(rates, |r| side_ok(grid, low[r as usize], high[r as usize]));
+        if bad_side.is_some() {
+            return Err(Refusal::BadField);
         }
+        Ok(Region {
+            grid,
+            rates,
+            low,
+            high,
+        })
     }
 
     pub fn grid(&self) -> u32

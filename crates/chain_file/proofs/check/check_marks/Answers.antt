@@ -1,21 +1,25 @@
-use Rattle.std.proofs.Common.{◌≡◌, ◌+◌, ◌<◌, refl, ap, arith}
-use Rattle.std.proofs.lemmas.Result.{err_from_is_err_and}
-use Rattle.chain_format.proofs.Loops.{reached_more, reached_all, reached_stop}
+use Rattle.std.proofs.Common.{◌≡◌, ◌+◌, ◌-◌, length, take, drop, refl, arith}
+use Rattle.std.proofs.lemmas.List.{length-take, length-drop}
+use Rattle.chain_file.proofs.Marks.{mark_at, marks-got, marks_wrong}
 use Rattle.chain_file.proofs.check.check_marks.Goals as goal
 
-pub returns-in_err-field_at : goal.returns-in_err-field_at
-returns-in_err-field_at c =
-    let p = err_from_is_err_and c.from_residual.result c.from_residual.ensures.1 in
-    let l : c.loop-s.s < c.args.states = omega arith in
-    rw (p.1, p.2) (reached_stop _ _ _ _ _ _ _ _ _ c.loop-s.invariant l c.in_err-field_at.ensures)
+pub returns-in-Some : goal.returns-in-Some
+returns-in-Some c =
+    let bs = c.args.bytes.now in
+    let at = c.args.at in
+    let n = c.args.states in
+    let i = c.in-Some.state in
+    let all : length (take (at + n - at) (drop at bs)) ≡ n = simp (length-take, length-drop) (omega arith) in
+    let h = c.in-Some.ensures.first in
+    marks_wrong bs at n i (omega (arith, h.0, all))
+    (λ k l. omega (arith, h.2 k l, mark_at bs at n k (omega (arith, h.0, all))))
+    (omega (arith, h.1, mark_at bs at n i (omega (arith, h.0, all))))
 
-pub loop-s-preserved : goal.loop-s-preserved
-loop-s-preserved c =
-    let f = c.in_ok-field_at.ensures in
-    let e : c.args.at + c.loop-s.s + 1 ≡ c.args.at + (c.loop-s.s + 1) = omega arith in
-    rw e at (reached_more _ _ _ _ _ _ _ _ _ _ c.loop-s.invariant f.0 refl)
-
-pub returns : goal.returns
-returns c =
-    let e : c.loop-s.s ≡ c.args.states = omega arith in
-    reached_all _ _ _ _ _ _ _ _ _ c.loop-s.invariant e (ap (λ k. c.args.at + k) e)
+pub returns-in-None : goal.returns-in-None
+returns-in-None c =
+    let bs = c.args.bytes.now in
+    let at = c.args.at in
+    let n = c.args.states in
+    let all : length (take (at + n - at) (drop at bs)) ≡ n = simp (length-take, length-drop) (omega arith) in
+    let m = marks-got bs at n (λ k l. omega (arith, c.in-None.ensures.none k (omega (arith, all)), mark_at bs at n k l)) in
+    (m.0, m.1, refl)

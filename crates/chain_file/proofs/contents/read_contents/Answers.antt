@@ -1,48 +1,16 @@
-use Rattle.std.proofs.Common.{refl, ◌∙◌, arith}
-use Rattle.std.proofs.lemmas.Result.{err_from_is_err_and}
-use Rattle.chain_format.proofs.Steps.{repeat_nothing, repeat_next, repeat_stop, repeat_stop_next}
+use Rattle.std.proofs.Common.{length, ap, ◌∙◌, arith}
+use Rattle.std.proofs.lemmas.Result.{on_ok_weaker}
+use Rattle.chain_format.specs.Reader.{Part}
+use Rattle.chain_format.specs.Format.{version1, contents}
+use Rattle.chain_file.proofs.Parts.{begun, answer_by-to}
 use Rattle.chain_file.proofs.contents.read_contents.Goals as goal
 
-pub returns-in_err-numbers : goal.returns-in_err-numbers
-returns-in_err-numbers c =
-    let p = err_from_is_err_and c.from_residual-in_err-numbers.result c.from_residual-in_err-numbers.ensures.1 in
-    let h = c.in_ok-rest.ensures in
-    rw (p.1, p.2) (h.0 ∙ repeat_stop _ _ _ _ _ _ (omega arith) (c.in_err-numbers.ensures _ h.1))
+pub returns-clause-answer : goal.returns-clause-answer
+returns-clause-answer c =
+    let end = on_ok_weaker c.read_lengths.result (λ h. omega (arith, h, c.new.ensures.place)) c.read_lengths.ensures.moved in
+    begun (contents version1) c.new.ensures.value c.new.ensures.place (c.read_lengths.ensures.answer ∙ answer_by-to _ c.read_lengths.result _ 44 end)
 
-pub returns-in_err-marks : goal.returns-in_err-marks
-returns-in_err-marks c =
-    let p = err_from_is_err_and c.from_residual-in_err-marks.result c.from_residual-in_err-marks.ensures.1 in
-    let h = c.in_ok-rest.ensures in
-    let a = c.in_ok-numbers.ensures _ h.1 in
-    rw (p.1, p.2) (h.0 ∙ repeat_stop_next _ _ _ _ _ _ _ _ _ _ refl a.0 refl (repeat_stop _ _ _ _ _ _ (omega arith) (c.in_err-marks.ensures _ a.1)))
-
-pub returns-in_err-offsets : goal.returns-in_err-offsets
-returns-in_err-offsets c =
-    let p = err_from_is_err_and c.from_residual-in_err-offsets.result c.from_residual-in_err-offsets.ensures.1 in
-    let h = c.in_ok-rest.ensures in
-    let a = c.in_ok-numbers.ensures _ h.1 in
-    let b = c.in_ok-marks.ensures _ a.1 in
-    rw (p.1, p.2) (h.0 ∙ repeat_stop_next _ _ _ _ _ _ _ _ _ _ refl a.0 refl (repeat_stop_next _ _ _ _ _ _ _ _ _ _ refl b.0 refl
-    (repeat_stop _ _ _ _ _ _ (omega arith) (c.in_err-offsets.ensures _ b.1))))
-
-pub returns-in_err-rows : goal.returns-in_err-rows
-returns-in_err-rows c =
-    let p = err_from_is_err_and c.from_residual-in_err-rows.result c.from_residual-in_err-rows.ensures.1 in
-    let h = c.in_ok-rest.ensures in
-    let a = c.in_ok-numbers.ensures _ h.1 in
-    let b = c.in_ok-marks.ensures _ a.1 in
-    let d = c.in_ok-offsets.ensures _ b.1 in
-    rw (p.1, p.2) (h.0 ∙ repeat_stop_next _ _ _ _ _ _ _ _ _ _ refl a.0 refl (repeat_stop_next _ _ _ _ _ _ _ _ _ _ refl b.0 refl
-    (repeat_stop_next _ _ _ _ _ _ _ _ _ _ refl d.0 refl (repeat_stop _ _ _ _ _ _ (omega arith) (c.in_err-rows.ensures _ d.1)))))
-
-pub returns : goal.returns
-returns c =
-    let h = c.in_ok-rest.ensures in
-    let a = c.in_ok-numbers.ensures _ h.1 in
-    let b = c.in_ok-marks.ensures _ a.1 in
-    let d = c.in_ok-offsets.ensures _ b.1 in
-    let e = c.in_ok-rows.ensures _ d.1 in (
-      h.0 ∙ repeat_next _ _ _ _ _ _ _ _ _ _ _ _ refl a.0 refl refl (repeat_next _ _ _ _ _ _ _ _ _ _ _ _ refl b.0 refl refl
-          (repeat_next _ _ _ _ _ _ _ _ _ _ _ _ refl d.0 refl refl (repeat_next _ _ _ _ _ _ _ _ _ _ _ _ refl e.0 refl refl (repeat_nothing _ _ _ _ _ _ refl refl)))),
-      e.1.inside,
-    )
+pub returns-clause-long : goal.returns-clause-long
+returns-clause-long c =
+    let same = ap (λ (p : Part). length p.bytes) (c.read_lengths.ensures.same ∙ c.new.ensures.value) in
+    on_ok_weaker c.read_lengths.result (λ h. omega (arith, h, same, c.new.ensures.place, c.read_lengths.new.part.inside)) c.read_lengths.ensures.moved

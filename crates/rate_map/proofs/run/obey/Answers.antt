@@ -1,37 +1,45 @@
-use Rattle.std.proofs.Common.{sym, refl, ap, ◌∙◌}
-use Rattle.theory.specs.Maps.{laid_out, split, safe_call, unsafe_call}
-use Rattle.theory.specs.Runs.{answer, after}
-use Rattle.rate_map.specs.Values.{open_value}
-use Rattle.rate_map.specs.Told.{command}
-use Rattle.rate_map.proofs.Obeyed.{obeyed, safe_on_lem, unsafe_on_lem}
+use Rattle.std.proofs.lemmas.Result.{err_from_is_err_and}
+use Rattle.rate_map.specs.Values.{map_value}
+use Rattle.theory.specs.Answers.{safe_answer, unsafe_answer}
+use Rattle.rate_map.proofs.Obeyed.{on_ok, on_err, witnessed}
 use Rattle.rate_map.proofs.run.obey.Goals as goal
 
-pub returns-in-LayOut : goal.returns-in-LayOut
-returns-in-LayOut g c =
-    let k = g.C.Chain.meaning c.args.map.now.chain in
-    let m = open_value c.args.map.now in
-    let o = obeyed _ (laid_out k m c.in-LayOut.grid c.in-LayOut.limit c.in-LayOut.sides.now) m _ _ _ refl c.lay_out.ensures.change c.done.ensures in
-    record { answer = o.answer ∙ ap (λ x. answer k m (command x)) (sym c.in-LayOut.is); value = o.left ∙ ap (λ x. after k m (command x)) (sym c.in-LayOut.is); chain = c.lay_out.ensures.chain }
+pub returns-in_err-lay_out-in-LayOut-clause-answer : goal.returns-in_err-lay_out-in-LayOut-clause-answer
+returns-in_err-lay_out-in-LayOut-clause-answer g c =
+    let p = err_from_is_err_and c.from_residual.result c.from_residual.ensures.1 in
+    rw (p.1, p.2, c.in-LayOut.is) (on_err c.lay_out.ensures.change c.in_err-lay_out-in-LayOut.was)
 
-pub returns-in-Split : goal.returns-in-Split
-returns-in-Split g c =
-    let k = g.C.Chain.meaning c.args.map.now.chain in
-    let m = open_value c.args.map.now in
-    let o = obeyed _ (split k m c.in-Split.number c.in-Split.rate c.in-Split.place) m _ _ _ refl c.split.ensures.change c.done-in-Split.ensures in
-    record { answer = o.answer ∙ ap (λ x. answer k m (command x)) (sym c.in-Split.is); value = o.left ∙ ap (λ x. after k m (command x)) (sym c.in-Split.is); chain = c.split.ensures.chain }
+pub returns-in_err-split-in-Split-clause-answer : goal.returns-in_err-split-in-Split-clause-answer
+returns-in_err-split-in-Split-clause-answer g c =
+    let p = err_from_is_err_and c.from_residual-in_err-split-in-Split.result c.from_residual-in_err-split-in-Split.ensures.1 in
+    rw (p.1, p.2, c.in-Split.is) (on_err c.split.ensures.change c.in_err-split-in-Split.was)
 
-pub returns-in-Safe : goal.returns-in-Safe
-returns-in-Safe g c =
-    let k = g.C.Chain.meaning c.args.map.now.chain in
-    let m = open_value c.args.map.now in
-    let e = safe_on_lem k (g.C.Chain.lawful c.args.map.now.chain) m c.args.map.now.grid_few c.requires c.in-Safe.number c.in-Safe.v.now in
-    let o = obeyed _ (safe_call k m c.in-Safe.number c.in-Safe.v.now) m _ _ _ e c.safe_witness.ensures.change c.done-in-Safe.ensures in
-    record { answer = o.answer ∙ ap (λ x. answer k m (command x)) (sym c.in-Safe.is); value = o.left ∙ ap (λ x. after k m (command x)) (sym c.in-Safe.is); chain = c.safe_witness.ensures.chain }
+pub returns-in_err-witness-in-Safe : goal.returns-in_err-witness-in-Safe
+returns-in_err-witness-in-Safe g c =
+    let p = err_from_is_err_and c.from_residual-in_err-witness-in-Safe.result c.from_residual-in_err-witness-in-Safe.ensures.1 in
+    let map = c.args.map.now in
+    let h = witnessed (g.C.Chain.meaning map.chain) (g.C.Chain.lawful map.chain) (map_value map) map.grid_few c.requires c.in-Safe.number
+    (λ G b L. safe_answer (g.C.Chain.meaning map.chain) G b L c.in-Safe.v.now) c.witness.ensures.change in
+    record { answer = rw (p.1, p.2, c.in-Safe.is) (on_err h c.in_err-witness-in-Safe.was); value = rw c.in-Safe.is h.left; chain = c.witness.ensures.chain }
 
-pub returns-in-Unsafe : goal.returns-in-Unsafe
-returns-in-Unsafe g c =
-    let k = g.C.Chain.meaning c.args.map.now.chain in
-    let m = open_value c.args.map.now in
-    let e = unsafe_on_lem k (g.C.Chain.lawful c.args.map.now.chain) m c.args.map.now.grid_few c.requires c.in-Unsafe.number c.in-Unsafe.v.now c.in-Unsafe.w.now in
-    let o = obeyed _ (unsafe_call k m c.in-Unsafe.number c.in-Unsafe.v.now c.in-Unsafe.w.now) m _ _ _ e c.unsafe_witness.ensures.change c.done-in-Unsafe.ensures in
-    record { answer = o.answer ∙ ap (λ x. answer k m (command x)) (sym c.in-Unsafe.is); value = o.left ∙ ap (λ x. after k m (command x)) (sym c.in-Unsafe.is); chain = c.unsafe_witness.ensures.chain }
+pub returns-in_ok-witness-in-Safe : goal.returns-in_ok-witness-in-Safe
+returns-in_ok-witness-in-Safe g c =
+    let map = c.args.map.now in
+    let h = witnessed (g.C.Chain.meaning map.chain) (g.C.Chain.lawful map.chain) (map_value map) map.grid_few c.requires c.in-Safe.number
+    (λ G b L. safe_answer (g.C.Chain.meaning map.chain) G b L c.in-Safe.v.now) c.witness.ensures.change in
+    record { answer = rw c.in-Safe.is (on_ok h c.in_ok-witness-in-Safe.was); value = rw c.in-Safe.is h.left; chain = c.witness.ensures.chain }
+
+pub returns-in_err-witness-in-Unsafe : goal.returns-in_err-witness-in-Unsafe
+returns-in_err-witness-in-Unsafe g c =
+    let p = err_from_is_err_and c.from_residual-in_err-witness-in-Unsafe.result c.from_residual-in_err-witness-in-Unsafe.ensures.1 in
+    let map = c.args.map.now in
+    let h = witnessed (g.C.Chain.meaning map.chain) (g.C.Chain.lawful map.chain) (map_value map) map.grid_few c.requires c.in-Unsafe.number
+    (λ G b L. unsafe_answer (g.C.Chain.meaning map.chain) G b L c.in-Unsafe.v.now c.in-Unsafe.w.now) c.witness-in-Unsafe.ensures.change in
+    record { answer = rw (p.1, p.2, c.in-Unsafe.is) (on_err h c.in_err-witness-in-Unsafe.was); value = rw c.in-Unsafe.is h.left; chain = c.witness-in-Unsafe.ensures.chain }
+
+pub returns-in_ok-witness-in-Unsafe : goal.returns-in_ok-witness-in-Unsafe
+returns-in_ok-witness-in-Unsafe g c =
+    let map = c.args.map.now in
+    let h = witnessed (g.C.Chain.meaning map.chain) (g.C.Chain.lawful map.chain) (map_value map) map.grid_few c.requires c.in-Unsafe.number
+    (λ G b L. unsafe_answer (g.C.Chain.meaning map.chain) G b L c.in-Unsafe.v.now c.in-Unsafe.w.now) c.witness-in-Unsafe.ensures.change in
+    record { answer = rw c.in-Unsafe.is (on_ok h c.in_ok-witness-in-Unsafe.was); value = rw c.in-Unsafe.is h.left; chain = c.witness-in-Unsafe.ensures.chain }

@@ -1,58 +1,32 @@
-use Rattle.std.proofs.Common.{◌≡◌, ◌<◌, false, ◌⊎◌, [], ◌∷◌, ◌++◌, get_or, vec_items, sym, ap, ◌∙◌, inl, inr, ⊎_elim, arith}
-use Rattle.std.proofs.lemmas.List.{append_assoc, append-nil}
-use Rattle.script.specs.Reading.{fit}
-use Rattle.script.proofs.Digits.{reached_none, stuck_digit, stuck_other, stuck_end, next_digit, next_space, read_end, reached_at}
+use Rattle.std.proofs.Common.{◌≡◌, ◌<◌, length, get_or, sym, ◌∙◌, rules, tests, arith}
+use Rattle.std.specs.List.{slice_split}
+use Rattle.std.proofs.lemmas.Iterator.Consumers.{YieldsList-at, YieldsList-turn, YieldsList-end}
+use Rattle.std.proofs.lemmas.Iterator.Splits.{YieldsList-from_slice_split}
+use Rattle.std.proofs.lemmas.List.{length_push}
+use Rattle.script.proofs.Digits.{space, split_numbers, stuck, reached_more, reached_all, reached_as}
 use Rattle.script.proofs.numbers.read_spaced.Goals as goal
-use Rattle.script.proofs.numbers.read_spaced.Goals.{then-b-ne32-via-then-b-ne32, then-b-ne32-via-else-b-ne32+then-not-is_number, then-is_digit+else-count-ge10+else-value-ge-LIMIT, else-is_digit+else-b-ne32+else-not-is_number+in_ok-push}
+use Rattle.script.proofs.numbers.read_spaced.Goals.{In-Some}
 
-pub loop-byte-init : goal.loop-byte-init
-loop-byte-init c = (omega arith, omega arith, ([], sym (append-nil _), reached_none _))
+-- the text of this turn is the next of those between spaces
+turn : (w : In-Some) → let parts = slice_split space w.args.text.now in let i = length w.loop-digits.yielded in (i < length parts) × (w.in-Some.digits.now ≡ get_or parts i w.in-Some.digits.now)
+turn w =
+    YieldsList-turn
+    (YieldsList-at w.into_iter-digits-iterator.ensures.into_iter_gives
+    (YieldsList-from_slice_split _ space w.args.text.now w.split-digits-items.ensures.rest w.split-digits-items.ensures.done w.split-digits-items.ensures.closure (λ x b q k. search (rules, tests))))
+    w.loop-digits.yielded _ w.loop-digits.yielded_by _ _ w.in-Some.digits w.in-Some.is w.next.ensures.steps
 
-pub returns-then-count-ge10 : goal.returns-then-count-ge10
-returns-then-count-ge10 c =
-    let i = c.loop-byte.invariant.2 in
-    (i.0, stuck_digit i.2 c.loop-byte-test.true (sym c.is_digit.ensures ∙ c.if-is_digit.true) (⊎_elim inl (λ h. inr h.1) c.then-count-ge10.either), i.1)
+pub returns-in_default : goal.returns-in_default
+returns-in_default c = sym (split_numbers c.args.text.now ∙ stuck c.in-Some.digits.now c.loop-digits.invariant (turn (goal.at.returns-in_default c).In-Some) (sym c.in_default.is ∙ c.read_number.ensures))
 
-pub returns-then-b-ne32 : goal.returns-then-b-ne32
-returns-then-b-ne32 c =
-    let i = c.loop-byte.invariant.2 in
-    let why : (get_or c.args.text.now c.loop-byte.byte-index 0 ≡ 32 → ⊥) ⊎ (fit c.loop-byte.count c.loop-byte.value ≡ false) =
-    elim c.then-b-ne32.branch [
-      | then-b-ne32-via-then-b-ne32 w ↦ inl w.if-b-ne32.true
-      | then-b-ne32-via-else-b-ne32+then-not-is_number w ↦ inr (sym w.is_number.ensures ∙ w.if-not-is_number.true)
-    ] in
-    (i.0, stuck_other i.2 c.loop-byte-test.true (sym c.is_digit.ensures ∙ c.if-is_digit.false) why, i.1)
-
-pub loop-byte-preserved : goal.loop-byte-preserved
-loop-byte-preserved c =
-    let i = c.loop-byte.invariant.2 in
-    elim c.if-is_digit.branch [
-      | then-is_digit+else-count-ge10+else-value-ge-LIMIT w ↦
-          let small : get_or c.args.text.now c.loop-byte.byte-index 0 < 256 = (c.type_inv.text c.loop-byte.byte-index).fits in (
-            omega (arith, w.count-is, w.if-count-ge10.false),
-            omega (arith, w.value-is, w.if-value-ge-LIMIT.false, small),
-            (i.0, ap vec_items w.numbers-is ∙ i.1, reached_at w.count-is w.value-is (next_digit i.2 c.loop-byte-test.true (sym c.is_digit.ensures ∙ w.if-is_digit.true))),
-          )
-      | else-is_digit+else-b-ne32+else-not-is_number+in_ok-push w ↦
-          let items = w.in_ok-push.ensures.items in (
-            omega (arith, w.count-is),
-            omega (arith, w.value-is),
-            (
-              i.0 ++ c.loop-byte.value ∷ [],
-              ap vec_items w.numbers-is ∙ items ∙ ap (λ t. t ++ c.loop-byte.value ∷ []) i.1 ∙ append_assoc _ i.0 _,
-              reached_at w.count-is w.value-is (next_space i.2 c.loop-byte-test.true w.if-b-ne32.false (sym w.is_number.ensures ∙ w.if-not-is_number.false)),
-            ),
-          )
-    ]
-
-pub returns-then-not-is_number-2 : goal.returns-then-not-is_number-2
-returns-then-not-is_number-2 c =
-    let i = c.loop-byte.invariant.2 in (i.0, stuck_end i.2 c.loop-byte-test.false (sym c.is_number-2.ensures ∙ c.if-not-is_number-2.true), i.1)
+pub loop-digits-preserved : goal.loop-digits-preserved
+loop-digits-preserved c =
+    reached_as c.in_ok-push.ensures.items (length_push c.loop-digits.yielded c.in-Some.digits)
+    (reached_more c.in-Some.digits.now c.in-Some-read_number.number c.loop-digits.invariant (turn (goal.at.loop-digits-preserved c).In-Some) (sym c.in-Some-read_number.is ∙ c.read_number.ensures))
 
 pub returns : goal.returns
 returns c =
-    let i = c.loop-byte.invariant.2 in (
-      i.0 ++ c.loop-byte.value ∷ [],
-      read_end i.2 c.loop-byte-test.false (sym c.is_number-2.ensures ∙ c.if-not-is_number-2.false),
-      c.in_ok-push-2.ensures.items ∙ ap (λ t. t ++ c.loop-byte.value ∷ []) i.1 ∙ append_assoc _ i.0 _,
-    )
+    let e = YieldsList-end
+    (YieldsList-at c.into_iter-digits-iterator.ensures.into_iter_gives
+    (YieldsList-from_slice_split _ space c.args.text.now c.split-digits-items.ensures.rest c.split-digits-items.ensures.done c.split-digits-items.ensures.closure (λ x b q k. search (rules, tests))))
+    c.loop-digits.yielded _ c.loop-digits.yielded_by _ _ c.in-None.is c.next.ensures.steps in
+    sym (split_numbers c.args.text.now ∙ reached_all c.loop-digits.invariant (omega (arith, e.1)))

@@ -1,27 +1,26 @@
-use Rattle.std.proofs.Common.{length, sym, ap, arith}
-use Rattle.sheet.specs.Sheet.{spaced}
-use Rattle.sheet.proofs.Puts.{put_none, put_more, put_like}
-use Rattle.sheet.proofs.Lengths.{sides_more, sides-within, side-length}
+use Rattle.std.proofs.Common.{◌≡◌, ℕ, suc, ◌+◌, ◌<◌, ◌++◌, length, take, get_or, refl, ◌∙◌, arith}
+use Rattle.std.proofs.lemmas.List.{length-append, length-take, length_push, get_or-take}
+use Rattle.std.proofs.lemmas.Slice.Zip.{zip_turn}
+use Rattle.theory.specs.declared.record.BoxRecord.{BoxRecord}
+use Rattle.sheet.specs.Sheet.{spaced, sides}
 use Rattle.sheet.proofs.line.put_sides.Goals as goal
 
-pub loop-k-init : goal.loop-k-init
-loop-k-init c = put_none _ _
+sides_more : (r : BoxRecord) (k low high : ℕ) → low ≡ get_or r.low k 0 → high ≡ get_or r.high k 0 → sides r (k + 1) ≡ sides r k ++ (spaced low ++ spaced high)
+sides_more r k low high p q = let e : k + 1 ≡ suc k = omega arith in rw (e, p, q) refl
 
-pub put_spaced-next-requires : goal.put_spaced-next-requires
-put_spaced-next-requires c =
+pub loop-low-preserved : goal.loop-low-preserved
+loop-low-preserved g c =
     let r = c.args.«record».now in
-    let low = ap (λ n. length (spaced n)) c.side_of-low.ensures.0 in
-    omega (arith, low, sides-within r c.loop-k.k c.args.count c.loop-k-test.true, side-length r c.loop-k.k)
-
-pub put_spaced-next-requires-in-loop-k : goal.put_spaced-next-requires-in-loop-k
-put_spaced-next-requires-in-loop-k c =
-    let r = c.args.«record».now in
-    let low = ap (λ n. length (spaced n)) c.side_of-low.ensures.0 in
-    let high = ap (λ n. length (spaced n)) c.side_of-low.ensures.1 in
-    omega (arith, low, high, sides-within r c.loop-k.k c.args.count c.loop-k-test.true, side-length r c.loop-k.k)
-
-pub loop-k-preserved : goal.loop-k-preserved
-loop-k-preserved c =
-    let low = put_like (ap spaced c.side_of-low.ensures.0) c.put_spaced-next.ensures in
-    let high = put_like (ap spaced c.side_of-low.ensures.1) c.put_spaced-next-in-loop-k.ensures in
-    put_like (sym (sides_more c.args.«record».now c.loop-k.k)) (put_more c.loop-k.invariant (put_more low high))
+    let n = c.min-count.result in
+    let i = length c.loop-low.yielded in
+    let turn = zip_turn (take n r.low) (take n r.high) c.loop-low.yielded c.into_iter-low-iterator.result c.loop-low.low-iterator c.next.new.self c.next.result (cc) (cc) c.loop-low.yielded_by _ c.in-Some.is c.next.ensures.steps in
+    let here : i < n = omega (arith, turn.0, length-take n r.low) in
+    let low : c.in-Some.low.now ≡ get_or r.low i 0 = turn.2 0 ∙ get_or-take n r.low i 0 here in
+    let high : c.in-Some.high.now ≡ get_or r.high i 0 = turn.3 0 ∙ get_or-take n r.high i 0 here in
+    let more = g.met.S.Sink.more in
+    rw (length_push, sides_more r i _ _ low high) (
+    record {
+      taken = more _ _ _ _ _ c.loop-low.invariant.taken (more _ _ _ _ _ c.put_spaced.ensures.taken c.put_spaced-in-loop-low.ensures.taken);
+      within = omega (arith, length-append (sides r i) (spaced c.in-Some.low.now ++ spaced c.in-Some.high.now), length-append (spaced c.in-Some.low.now) (spaced c.in-Some.high.now));
+    }
+    )

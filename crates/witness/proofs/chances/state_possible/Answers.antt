@@ -1,11 +1,13 @@
+use Rattle.std.proofs.Common.{◌^◌, ◌∙◌, rules}
+use Rattle.theory.specs.Words.{passes}
+use Rattle.theory.specs.Values.{named}
+use Rattle.theory.specs.Answers.{possible_at}
 use Rattle.witness.specs.Regions.{box_of}
-use Rattle.witness.proofs.Tests.{chance_is}
+use Rattle.witness.specs.Rows.{row_of}
 use Rattle.witness.proofs.chances.state_possible.Goals as goal
 
-pub returns-in-Some : goal.returns-in-Some
-returns-in-Some g c = chance_is (g.C.Chain.meaning c.args.chain.now) c.args.region.now.grid (box_of c.args.region.now) c.args.state _ _
-    c.fill.ensures.row c.in-Some.ensures
-
-pub returns-in-None : goal.returns-in-None
-returns-in-None g c = chance_is (g.C.Chain.meaning c.args.chain.now) c.args.region.now.grid (box_of c.args.region.now) c.args.state _ _
-    c.fill.ensures.row c.in-None.ensures
+pub returns : goal.returns
+returns g c =
+    let r = c.new-row.result in
+    c.passes_at_corners.ensures (possible_at r.region.now.grid (box_of r.region.now) (row_of r.row)) (λ t b h p. search rules)
+    ∙ (λ i. let region = c.new-row.ensures.region i in let row = c.new-row.ensures.row i in passes (possible_at region.grid (box_of region) row) (2 ^ named row))

@@ -5,4 +5,5 @@ use Rattle.witness.proofs.value.widened.Goals as goal
 pub returns : goal.returns
 returns c =
     let long : length c.args.coefficients.now ≡ 8 = search rules in
-    ext_get_or (pos 0) c.loop-i.wide c.args.coefficients.now (c.loop-i.invariant.0 ∙ sym long) (λ k h. c.loop-i.invariant.1 k (omega (arith, c.loop-i.invariant.0)))
+    ext_get_or (pos 0) c.map.result c.args.coefficients.now (c.map.ensures.items.long ∙ sym long)
+    (λ k h. let called = c.map.ensures.items.at k (pos 0) (pos 0) (omega (arith, c.map.ensures.items.long)) in search rules)

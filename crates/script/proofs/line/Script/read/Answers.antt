@@ -1,32 +1,28 @@
-use Rattle.std.proofs.Common.{◌≡◌, ◌+◌, ◌-◌, ◌<◌, ◌∷◌, length, take, drop, sym, refl, ap, ◌∙◌, arith}
-use Rattle.std.proofs.lemmas.List.{length-drop, nil_from_length}
-use Rattle.script.specs.Reading.{lines_of}
-use Rattle.script.proofs.Lines.{lines_next, read_none, read_more, read_all, read_as}
+use Rattle.std.proofs.Common.{ℕ, length, map, take, sym, ap, ◌∙◌, rules, tests, arith}
+use Rattle.std.proofs.lemmas.Iterator.Consumers.{YieldsList-at, YieldsList-turn, YieldsList-end}
+use Rattle.std.proofs.lemmas.List.{length_push, take_all}
+use Rattle.script.specs.Reading.{line_said, lines_of}
+use Rattle.script.specs.Values.{line_said_by, without_break}
+use Rattle.script.proofs.Lines.{YieldsList-from_pieces, read_more}
 use Rattle.script.proofs.Grammar.{reads_the_grammar, said_as}
 use Rattle.script.proofs.line.Script.read.Goals as goal
 
-pub loop-rest-init : goal.loop-rest-init
-loop-rest-init c = read_as refl c.new-lines.ensures.items c.new-numbers.ensures.items (read_none _)
-
-pub loop-rest-smaller : goal.loop-rest-smaller
-loop-rest-smaller c =
-    let rest = c.loop-rest.rest.now in
-    omega (arith, ap length c.behind-rest.ensures, length-drop (c.line_length-length.result + 1) rest, c.loop-rest-test.true)
-
-pub loop-rest-preserved : goal.loop-rest-preserved
-loop-rest-preserved c =
-    let rest = c.loop-rest.rest.now in
-    let k = c.line_length-length.result in
-    let e = c.line_length-length.ensures in
-    let some : 0 < length rest = omega (arith, c.loop-rest-test.true) in
-    let z : k ≡ k - 0 = omega arith in
-    let next : lines_of rest ≡ take (k - 0) rest ∷ lines_of c.behind-rest.result.now =
-    lines_next rest k some e.within e.before e.found ∙ ap (λ t. take t rest ∷ lines_of (drop (k + 1) rest)) z
-    ∙ ap (λ t. take (k - 0) rest ∷ lines_of t) (sym c.behind-rest.ensures) in
-    read_as refl c.in_ok-push.ensures.items refl (read_more _ _ _ _ c.loop-rest.invariant next c.in_ok-line.ensures)
+pub loop-line-preserved : goal.loop-line-preserved
+loop-line-preserved c =
+    let t = YieldsList-turn
+    (YieldsList-at c.into_iter-line-iterator.ensures.into_iter_gives
+    (YieldsList-from_pieces _ c.args.bytes.now c.split_inclusive-line-items.ensures.rest c.split_inclusive-line-items.ensures.closure (λ x b q k. search (rules, tests))))
+    c.loop-line.yielded _ c.loop-line.yielded_by _ _ c.in-Some.line c.in-Some.is c.next.ensures.steps in
+    let one = λ (n : ℕ). c.in_ok-read_line.ensures n ∙ ap (line_said n) c.without_break.ensures in
+    λ n. ap (map (line_said_by n)) c.in_ok-push.ensures.items
+    ∙ read_more n (length c.loop-line.yielded) _ (without_break c.in-Some.line.now) _ (lines_of c.args.bytes.now) (c.loop-line.invariant n) t.0 t.1 (one n)
+    ∙ ap (λ k. map (line_said n) (take k (lines_of c.args.bytes.now))) (sym (length_push c.loop-line.yielded c.in-Some.line))
 
 pub returns : goal.returns
 returns c =
-    let rest = c.loop-rest.rest.now in
-    let all = read_all c.loop-rest.invariant (nil_from_length rest (omega (arith, c.loop-rest-test.false))) in
-    record { says = all; grammar = λ n. said_as n c.args.bytes.now _ (all n) (reads_the_grammar n c.args.bytes.now).0 }
+    let e = YieldsList-end
+    (YieldsList-at c.into_iter-line-iterator.ensures.into_iter_gives
+    (YieldsList-from_pieces _ c.args.bytes.now c.split_inclusive-line-items.ensures.rest c.split_inclusive-line-items.ensures.closure (λ x b q k. search (rules, tests))))
+    c.loop-line.yielded _ c.loop-line.yielded_by _ _ c.in-None.is c.next.ensures.steps in
+    let says = λ (n : ℕ). c.loop-line.invariant n ∙ ap (map (line_said n)) (take_all (length c.loop-line.yielded) (lines_of c.args.bytes.now) (omega (arith, e.1))) in
+    record { says = says; grammar = λ n. said_as n c.args.bytes.now _ (says n) (reads_the_grammar n c.args.bytes.now).0 }

@@ -1,0 +1,8 @@
+use Rattle.std.proofs.Common.{take, ap, ◌∙◌, subst}
+use Rattle.chain_writer.proofs.Records.{take-le_bytes}
+use Rattle.chain_writer.proofs.bytes.put_number.Goals as goal
+
+pub returns : goal.returns
+returns g c =
+    let e = ap (take c.args.width) c.to_le_bytes.ensures ∙ take-le_bytes c.args.width c.args.value c.requires in
+    subst (λ xs. g.S.Sink.Takes c.args.sink.now xs c.put.new.self) e c.put.ensures

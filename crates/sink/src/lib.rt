@@ -1,0 +1,68 @@
+// Bytes that are put one after another: what they are is written once, and serves to measure them and to write them.
+
+#![tactic(auto)]
+
+ghost use Rattle.std.specs.Prelude.{◌≡◌, ℕ, ◌-◌, ◌^◌, ◌≤◌, List, [], ◌++◌, length, min, IsOk};
+ghost use Rattle.sink.specs.Taken.{WritesAll};
+
+mod counter;
+mod cursor;
+
+use counter::Counter;
+use cursor::Cursor;
+
+// Takes bytes, one after another. What it has no room for, it drops.
+pub trait Sink {
+    // The bytes that a sink was given, between what it was before and what it is after.
+    ghost Takes: { Self → List ℕ → Self → Type 0 };
+
+    fn put(&mut self, bytes: &[u8])
+        ensures { Takes self.old bytes.now self.new };
+
+    ghost none: { (s : Self) → Takes s [] s };
+
+    ghost more: { (s t u : Self) (xs ys : List ℕ) → Takes s xs t → Takes t ys u → Takes s (xs ++ ys) u };
+}
+
+// What is put into a sink as bytes.
+pub trait Encode {
+    ghost bytes: { Self → List ℕ };
+
+    // How many bytes are always enough.
+    ghost most: { Self → ℕ };
+
+    fn encode<S: Sink>(&self, sink: &mut S)
+        ensures taken { S.Takes sink.old (bytes self.now) sink.new }
+        ensures within { length (bytes self.now) ≤ most self.now };
+
+    // How many bytes those are. A value that knows it tells it without putting them.
+    fn length(&self) -> usize
+        ensures exact { result ≡ min (2 ^ 64 - 1) (length (bytes self.now)) }
+        ensures within { length (bytes self.now) ≤ most self.now }
+    {
+        let mut counter = Counter::new();
+        self.encode(&mut counter);
+        counter.count()
+    }
+}
+
+// The buffer has fewer bytes than are to be written.
+#[derive(Clone, Copy, PartialEq, Eq, Debug)]
+pub struct ShortBuffer;
+
+// Writes a value at the start of a buffer, and gives its length. A buffer that is too short stays as it was.
+pub fn write<E: Encode>(value: &E, buffer: &mut [u8]) -> Result<usize, ShortBuffer>
+    ensures written { WritesAll result buffer.old buffer.new (E.bytes value.now) }
+    ensures enough { E.most value.now ≤ length buffer.old → IsOk result }
+{
+    let length = value.length();
+    if buffer.len() < length {
+        return Err(ShortBuffer);
+    }
+    let mut cursor = Cursor::new(buffer);
+    value.encode(&mut cursor);
+    Ok(length)
+}
+
+#[cfg(test)]
+mod tests;

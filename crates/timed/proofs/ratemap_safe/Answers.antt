@@ -1,7 +1,0 @@
-use Rattle.timed.specs.Timed.{safe_number}
-use Rattle.timed.proofs.Judged.{over_file_lem}
-use Rattle.timed.proofs.ratemap_safe.Goals as goal
-
-pub returns-in-Ok : goal.returns-in-Ok
-returns-in-Ok c =
-    over_file_lem c.args.file.now _ (λ m. safe_number m c.args.grid c.args.limit c.args.sides.now c.args.v.now) _ c.in-Ok.ensures.0 c.in-Ok.ensures.1 c.judge_safe.ensures

@@ -1,8 +1,0 @@
-use Rattle.std.proofs.Common.{◌≡◌, None}
-use Rattle.theory.specs.Words.{lowest}
-use Rattle.theory.specs.Answers.{chance_ok}
-use Rattle.witness.specs.Regions.{box_of}
-use Rattle.witness.proofs.chances.first_impossible.Given as goal
-
-abbrev pub invariant-loop-state : goal.invariant-loop-state
-invariant-loop-state g l = lowest (chance_ok (g.C.Chain.meaning l.chain) l.region.grid (box_of l.region)) l.state ≡ None
