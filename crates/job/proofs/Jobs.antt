@@ -1,16 +1,13 @@
 -- From the list of calls to the whole job.
-use Rattle.std.proofs.Common.{◌≡◌, ℕ, ◌<◌, ◌≤◌, Bool, true, cond, leb, List, [], ◌++◌, length, vec_items, sym, refl, ap, ◌∙◌}
-use Rattle.std.proofs.lemmas.Bool.{cond-true, cond-false, le-leb, lt-leb, false≢true}
+use Rattle.std.proofs.Common.{◌≡◌, ℕ, ◌≤◌, Bool, true, cond, leb, List, [], ◌++◌, length, vec_items, sym, refl, ap, ◌∙◌}
+use Rattle.std.proofs.lemmas.Bool.{cond-true, le-leb, false≢true}
 use Rattle.chain.specs.Chains.{Meaning}
-use Rattle.chain.specs.declared.refusal.Refusal.{Refusal}
-use Rattle.chain.specs.declared.refusal.Refusal.TheVariants.{TooLong}
 use Rattle.chain_format.specs.Reader.{Answer as Read, refused, got}
 use Rattle.chain_format.specs.Format.{File, opened, meaning, file_in, taken, Opens, chain_in}
 use Rattle.theory.specs.Maps.{new_map}
 use Rattle.theory.specs.Runs.{Command, run_from}
 use Rattle.rate_map.specs.declared.run.Ran.{Ran}
 use Rattle.rate_map.specs.Promise.{Promised, ended_value, chain_of, is_closed}
-use Rattle.sheet.specs.Sheet.{refused_line}
 use Rattle.script.specs.Grammar.{Said, ScriptSays}
 use Rattle.script.specs.Reading.{script_said, commands, closes}
 use Rattle.job.specs.Output.{most_bytes, texts, sheet_of, shown, map_output, opened_output, job_output}
@@ -46,14 +43,9 @@ mapped_output c script said out m d f =
     m.output_is ∙ ap (λ x. shown c m.said x m.answers) m.value ∙ ap (shown c m.said (run_from c (new_map c) (commands m.said))) m.answered ∙ ap (map_output c) e
 
 -- ---- the file and the script
-pub long_file : (file script : List ℕ) → most_bytes < length file → refused_line TooLong ≡ job_output file script
-long_file file script h = sym (cond-false (leb (length file) most_bytes) _ _ (lt-leb (length file) most_bytes h))
 
 pub short_file : (file script : List ℕ) → length file ≤ most_bytes → job_output file script ≡ opened_output (opened file) script
 short_file file script h = cond-true (leb (length file) most_bytes) _ _ (le-leb (length file) most_bytes h)
-
-pub bad_file : (file script : List ℕ) (e : Refusal) → length file ≤ most_bytes → opened file ≡ refused e → refused_line e ≡ job_output file script
-bad_file file script e h o = sym (short_file file script h ∙ ap (λ a. opened_output a script) o)
 
 -- the same with the numbers as the code has them
 module _ {C : Type 0} (meaning_of : C → Meaning) (chain : C) (script : List ℕ) (said : ℕ → List Said) (r : Ran C) where
@@ -80,10 +72,3 @@ run_job file bytes script out h o l e q =
         → opened_output a script ≡ map_output (meaning (file_in a)) (script_said (meaning (file_in a)).states script)
     opened-output (refused x) t = absurd (false≢true t)
     opened-output (got f to) t = cond-true (leb (length script) most_bytes) _ _ (le-leb (length script) most_bytes l)
-
-pub long_script : (file script : List ℕ) → length file ≤ most_bytes → Opens file → most_bytes < length script → refused_line TooLong ≡ job_output file script
-long_script file script h o l = sym (short_file file script h ∙ opened-output (opened file) o)
-  where
-    opened-output : (a : Read File) → taken a ≡ true → opened_output a script ≡ refused_line TooLong
-    opened-output (refused x) t = absurd (false≢true t)
-    opened-output (got f to) t = cond-false (leb (length script) most_bytes) _ _ (lt-leb (length script) most_bytes l)

@@ -1,5 +1,5 @@
 -- The numbers of a line: its text between spaces.
-use Rattle.std.proofs.Common.{◌≡◌, ℕ, suc, ◌+◌, ◌-◌, ◌*◌, ◌^◌, ◌<◌, ◌≤◌, Bool, true, false, cond, ◌&&◌, eqb, leb, List, [], ◌∷◌, ◌++◌, length, get_or, take, drop, Some, None, Option, sym, refl, ap, ◌∙◌, ⊎_elim, lit<, arith}
+use Rattle.std.proofs.Common.{◌≡◌, ℕ, suc, ◌+◌, ◌-◌, ◌*◌, ◌^◌, ◌<◌, ◌≤◌, Bool, true, false, cond, ◌&&◌, eqb, leb, List, [], ◌∷◌, ◌++◌, length, get_or, take, drop, Some, None, Option, sym, refl, ap, ◌∙◌, ⊎_elim, arith}
 use Rattle.std.specs.Option.{option_map}
 use Rattle.std.specs.List.{list_all, slice_split, onto_first}
 use Rattle.std.proofs.lemmas.List.{append_assoc, append-nil, take_more, at_drop_more, at_drop_all}
@@ -21,9 +21,6 @@ pub record Digits (text : List ℕ) (count n : ℕ) : Type 0 where
   pub digits : list_all digit (take count text) ≡ true
   pub value : n ≡ value_of 0 (take count text)
   pub small : n < 10 ^ count
-
-pub digits_none : (text : List ℕ) → Digits text 0 0
-digits_none text = record { digits = refl; value = refl; small = lit< tt }
 
 pub digits_more : {text : List ℕ} {count n : ℕ} (d : ℕ) → Digits text count n → count < length text → digit (get_or text count 0) ≡ true → d ≡ get_or text count 0 - 48
     → Digits text (count + 1) (10 * n + d)
