@@ -55,7 +55,7 @@ column-is : (i n : ℕ) (es : List Edge) → column i (map filled_edge es ++ rep
 column-is i n [] = column_none i n
 column-is i n (e ∷ es) = rw (get_or-padded e.coefficients (8 - length e.coefficients) i, column-is i n es)
 
-all_more : (test : ℕ → Bool) (a k j : ℕ) → a + k ≡ j → list_all test (range_with_len a (suc k)) ≡ (list_all test (range_with_len a k) && test j)
+pub all_more : (test : ℕ → Bool) (a k j : ℕ) → a + k ≡ j → list_all test (range_with_len a (suc k)) ≡ (list_all test (range_with_len a k) && test j)
 all_more test a zero j e = let s : a ≡ j = omega arith in rw s (and-true (test j))
 all_more test a (suc k) j e = rw (all_more test (a + 1) k j (omega arith)) (sym (and_assoc (test a) (list_all test (range_with_len (a + 1) k)) (test j)))
 

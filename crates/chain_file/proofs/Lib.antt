@@ -2,3 +2,4 @@ pub mod Fills
 pub mod Marks
 pub mod Openings
 pub mod Parts
+pub mod EdgeSums

@@ -1,15 +1,23 @@
 -- The bytes of a file, in the order in which they are written.
-use Rattle.std.proofs.Common.{◌≡◌, ℕ, zero, suc, ◌+◌, ◌*◌, ◌^◌, ◌≤◌, List, [], ◌∷◌, ◌++◌, map, length, sym, refl, ap, ◌∙◌, zero-add, mul-suc, arith, length-append}
+use Rattle.std.proofs.Common.{◌≡◌, ℕ, zero, suc, ◌+◌, ◌-◌, ◌*◌, ◌/◌, ◌%◌, ◌^◌, ◌<◌, ◌≤◌, List, [], ◌∷◌, ◌++◌, map, length, get_or, take, drop, sym, refl, ap, ◌∙◌, zero-add, mul-suc, arith, length-append}
 use Rattle.std.specs.List.{range_with_len, flat_map, AllByRecursion}
 use Rattle.std.proofs.lemmas.List.FromFn.{map-range_with_len_more, length-map-range_with_len}
-use Rattle.std.proofs.lemmas.List.{append_assoc, append-nil}
+use Rattle.std.proofs.lemmas.List.{append_assoc, append-nil, take_all}
 use Rattle.chain.specs.Chains.{Edge, Row, Meaning, LawfulEdge, LawfulRow}
-use Rattle.chain_format.specs.Reader.{bytes_of, spell, each}
+use Rattle.chain_format.specs.Reader.{bytes_of, spell, each, stay}
 use Rattle.chain_format.specs.Format.{Version, version1, entry_bytes, contents_bytes, numbers_bytes, marks_bytes, edge_bytes, row_bytes, offsets_bytes, rows_bytes, bodies_of, file_of, encode}
 use Rattle.chain_format.proofs.Laws.{length-bytes_of}
 use Rattle.chain_format.proofs.OpenLaws.{length-spell, edge-length, length-numbers, length-marks, length_offsets, length-assembled}
 
 -- ---- a number, byte by byte
+pub bytes_of_none : (x : ℕ) → bytes_of 0 x ≡ []
+unfolding bytes_of
+bytes_of_none x = refl
+
+pub bytes_of_more : (w x : ℕ) → 0 < w → bytes_of w x ≡ x % 256 ∷ bytes_of (w - 1) (x / 256)
+unfolding bytes_of
+bytes_of_more zero x h = absurd (omega arith)
+bytes_of_more (suc w) x h = let e : suc w - 1 ≡ w = omega arith in rw e
 
 -- ---- values one by one: from the last, and from the first
 pub spell_none : {S A : Type 0} (w : S → A → List ℕ) (next : S → A → S) (s : S) → spell w next s [] ≡ []
@@ -21,9 +29,30 @@ unfolding spell
 spell_push w next s [] y = append-nil (w y)
 spell_push w next s (x ∷ xs) y = ap (λ t. w x ++ t) (spell_push w next (next s x) xs y) ∙ sym (append_assoc (w x) _ (w y))
 
+pub spell-first : {A : Type 0} (w : A → List ℕ) (xs : List A) (d : A) → 0 < length xs
+    → spell (each w) stay 0 xs ≡ w (get_or xs 0 d) ++ spell (each w) stay 0 (take (length xs - 1) (drop 1 xs))
+unfolding spell
+spell-first w [] d h = absurd (omega arith)
+spell-first w (x ∷ xs) d h = ap (λ t. w x ++ spell (each w) stay 0 t) (sym (take_all (suc (length xs) - 1) xs (omega arith)))
+
+pub spell_empty : {A : Type 0} (w : A → List ℕ) (xs : List A) → length xs ≡ 0 → spell (each w) stay 0 xs ≡ []
+unfolding spell
+spell_empty w [] h = refl
+spell_empty w (x ∷ xs) h = absurd (omega arith)
+
+-- the state does not matter where the bytes do not depend on it
+pub spell-each : {A : Type 0} (w : A → List ℕ) (f g : ℕ → A → ℕ) (s t : ℕ) (xs : List A) → spell (each w) f s xs ≡ spell (each w) g t xs
+unfolding spell
+spell-each w f g s t [] = refl
+spell-each w f g s t (x ∷ xs) = ap (λ r. w x ++ r) (spell-each w f g (f s x) (g t x) xs)
+
 pub counted_push : {A : Type 0} (w : A → List ℕ) (next : ℕ → A → ℕ) (f : ℕ → A) (i : ℕ)
     → spell (each w) next 0 (map f (range_with_len 0 (i + 1))) ≡ spell (each w) next 0 (map f (range_with_len 0 i)) ++ w (f i)
 counted_push w next f i = ap (spell (each w) next 0) (map-range_with_len_more f 0 i i (omega arith)) ∙ spell_push w next 0 _ (f i)
+
+pub length-counted : {A : Type 0} (w : A → List ℕ) (next : ℕ → A → ℕ) (f : ℕ → A) (k i : ℕ) → ((a : A) → length (w a) ≡ k)
+    → length (spell (each w) next 0 (map f (range_with_len 0 i))) ≡ k * i
+length-counted w next f k i h = length-spell (each w) next k (λ _ a. h a) 0 _ ∙ ap (λ n. k * n) (length-map-range_with_len f 0 i)
 
 -- ---- the length of a row
 edges_length : (v : Version) (size : ℕ) (f : ℕ → Edge → ℕ) (s : ℕ) (es : List Edge) → AllByRecursion (LawfulEdge size) es
@@ -60,6 +89,11 @@ further v c i zero = let e : i + zero ≡ i = omega arith in rw e (omega arith)
 further v c i (suc k) =
     let e : i + suc k ≡ i + k + 1 = omega arith in
     rw e (omega (arith, further v c i k, ap length (rows_to_more v c (i + k)) ∙ length-append (rows_to v c (i + k)) (row_bytes v (c.row (i + k)))))
+
+pub rows_to-within : (v : Version) (c : Meaning) (i n : ℕ) → i < n → length (rows_to v c i) + length (row_bytes v (c.row i)) ≤ length (rows_to v c n)
+rows_to-within v c i n h =
+    let e : i + 1 + (n - (i + 1)) ≡ n = omega arith in
+    omega (arith, rw e at (further v c (i + 1) (n - (i + 1))), ap length (rows_to_more v c i) ∙ length-append (rows_to v c i) (row_bytes v (c.row i)))
 
 offsets_push : (v : Version) (rs : List Row) (off s : ℕ) (r : Row)
     → spell (λ at _. bytes_of 4 at) (λ at r. at + length (row_bytes v r)) off (rs ++ r ∷ [])

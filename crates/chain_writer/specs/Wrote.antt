@@ -1,5 +1,5 @@
 -- What a buffer holds once bytes are written to its start, and the bytes of a record.
-use Rattle.std.specs.Prelude.{◌≡◌, ℕ, ◌^◌, List, ◌++◌, length, take, drop}
+use Rattle.std.specs.Prelude.{◌≡◌, ℕ, ◌+◌, ◌*◌, ◌^◌, List, ◌++◌, length, take, drop}
 use Rattle.chain.specs.Chains.{Meaning}
 use Rattle.chain.specs.declared.record.RowRecord.{RowRecord}
 use Rattle.chain.specs.declared.record.EdgeRecord.{EdgeRecord}
@@ -23,3 +23,7 @@ abbrev pub record_bytes : Version → RowRecord → List ℕ
 record_bytes v r =
     (bytes_of 1 r.rate_count ++ take r.rate_count r.rates)
     ++ (bytes_of 1 r.edge_count ++ spell (each (edge_record_bytes v (2 ^ r.rate_count))) stay 0 (take r.edge_count r.edges))
+
+-- how many those are
+abbrev pub record_length : Version → RowRecord → ℕ
+record_length v r = 2 + r.rate_count + (v.wide + 2 * 2 ^ r.rate_count) * r.edge_count

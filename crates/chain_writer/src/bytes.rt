@@ -8,5 +8,7 @@ pub(crate) fn put_number<S: Sink>(sink: &mut S, width: usize, value: u32)
     requires { width ≤ 4 }
     ensures { S.Takes sink.old (bytes_of width value) sink.new }
 {
-    sink.put(&value.to_le_bytes()[..width])
+    for byte in &value.to_le_bytes()[..width] {
+        sink.put_byte(*byte);
+    }
 }

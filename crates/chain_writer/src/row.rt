@@ -1,7 +1,8 @@
 // A row, from the record that a chain fills.
-ghost use Rattle.std.specs.Prelude.{◌<◌, ◌≤◌};
+ghost use Rattle.std.specs.Prelude.{◌≡◌, ◌<◌, ◌≤◌};
+ghost use Rattle.chain.specs.Filled.{filled};
 ghost use Rattle.chain_format.specs.Format.{version1, row_bytes};
-ghost use Rattle.chain_writer.specs.Wrote.{edge_record_bytes, record_bytes};
+ghost use Rattle.chain_writer.specs.Wrote.{edge_record_bytes, record_bytes, record_length};
 
 use crate::bytes::put_number;
 use chain::interface::Chain;
@@ -34,6 +35,16 @@ fn put_row<S: Sink>(sink: &mut S, row: &RowRecord)
     }
 }
 
+// How many bytes a row takes.
+fn row_length(row: &RowRecord) -> usize
+    requires rates { row.now.rate_count ≤ 3 }
+    requires edges { row.now.edge_count ≤ 8 }
+    ensures { result ≡ record_length version1 row.now }
+{
+    let rates = row.rate_count as usize;
+    2 + rates + (WIDE + (2 << rates)) * row.edge_count as usize
+}
+
 // The row of a state that the chain has.
 #[derive(Drop)]
 pub(crate) struct StateRow<'a, C: Chain> {
@@ -42,14 +53,26 @@ pub(crate) struct StateRow<'a, C: Chain> {
     ghost within: { state < (C.meaning chain.now).states },
 }
 
+impl<C: Chain> StateRow<'_, C> {
+    fn record(&self) -> RowRecord
+        ensures { result ≡ filled ((C.meaning self.now.chain.now).row self.now.state) }
+    {
+        let mut row = NO_ROW;
+        let _ = self.chain.row(self.state, &mut row);
+        row
+    }
+}
+
 impl<C: Chain> Encode for StateRow<'_, C> {
     ghost bytes = { λ r. row_bytes version1 ((C.meaning r.chain.now).row r.state) };
 
     ghost most = { λ _. 149 };
 
     fn encode<S: Sink>(&self, sink: &mut S) {
-        let mut row = NO_ROW;
-        let _ = self.chain.row(self.state, &mut row);
-        put_row(sink, &row)
+        put_row(sink, &self.record())
+    }
+
+    fn length(&self) -> usize {
+        row_length(&self.record())
     }
 }

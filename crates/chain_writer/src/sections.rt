@@ -86,4 +86,13 @@ impl<C: Chain> Encode for Rows<'_, C> {
             StateRow { chain, state }.encode(sink);
         }
     }
+
+    fn length(&self) -> usize {
+        let chain = self.chain;
+        let mut size = 0;
+        for state in 0..chain.states() {
+            size += StateRow { chain, state }.length();
+        }
+        size
+    }
 }

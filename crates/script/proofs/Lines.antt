@@ -1,18 +1,18 @@
--- The lines of a script.
-use Rattle.std.proofs.Common.{◌≡◌, ℕ, zero, suc, ◌+◌, ◌-◌, ◌<◌, ◌≤◌, min, Bool, cond, eqb, List, [], ◌∷◌, ◌++◌, map, length, get_or, take, drop, Option, sym, refl, ap, ◌∙◌, subst, ⊎_elim, arith}
+-- The lines of a script, and lines whose numbers stand among the numbers of the script.
+use Rattle.std.proofs.Common.{◌≡◌, ℕ, zero, suc, ◌+◌, ◌-◌, ◌<◌, ◌≤◌, min, Bool, true, cond, ◌&&◌, eqb, leb, List, [], ◌∷◌, ◌++◌, map, length, get_or, take, drop, Option, sym, refl, ap, ◌∙◌, subst, ⊎_elim, arith}
 use Rattle.std.specs.Borrow.{Bor}
 use Rattle.std.specs.Fn.{ComputesKey, CalledAt}
-use Rattle.std.specs.List.{IsFirstMatchOrLen}
+use Rattle.std.specs.List.{IsFirstMatchOrLen, AllByRecursion}
 use Rattle.std.specs.Option.{MatchOption}
 use Rattle.std.specs.Slice.Iter.{split_inclusive_rest, split_inclusive_callee}
 use Rattle.std.specs.declared.slice.SplitInclusive.{SplitInclusive}
-use Rattle.std.proofs.lemmas.Bool.{cond-true, cond-false, eq-eqb, ne_eqb, eqb-true, eqb-false, cases_lt}
+use Rattle.std.proofs.lemmas.Bool.{cases_Bool, cond-true, cond-false, eq-eqb, ne_eqb, eqb-true, eqb-false, cases_lt, le-leb, leb-true, and_from, and_left}
 use Rattle.std.proofs.lemmas.Fn.{always_returns_same}
 use Rattle.std.proofs.lemmas.Iterator.{YieldsList}
 use Rattle.std.proofs.lemmas.Iterator.Splits.{YieldsList-from_shown_while}
-use Rattle.std.proofs.lemmas.List.{take_at, drop_at, take_all, drop_all, take-take, get_or-take, get_or_past, nil_from_length, map_push, map_more}
+use Rattle.std.proofs.lemmas.List.{length-append, drop-append-le, take-append-le, length-drop, take_at, drop_at, take_all, drop_all, take-take, get_or-take, get_or_past, nil_from_length, map_push, map_more}
 use Rattle.script.specs.Reading.{line_said, on_first, lines_of}
-use Rattle.script.specs.Values.{without_break, line_said_by}
+use Rattle.script.specs.Values.{without_break, said_behind, said_in, Placed, LineRead}
 use Rattle.script.specs.declared.line.Line.{Line}
 use denote.Param.Members.{Mut}
 
@@ -105,9 +105,54 @@ YieldsList-from_pieces {s = s} g {f} text rest closure tests =
     (λ t x u h k. let m = k.1.2 p h in (m.0, first_line (split_inclusive_rest t) x.now (split_inclusive_rest u) k.1.0 k.0 k.1.1 m.1 k.2))
     s (subst (ComputesKey g p) (sym closure) (always_returns_same g (λ a r. r ≡ p a.0.now) f (λ a r q k. let m = tests a.0.now r q (record { shown = a.0; shows = refl; called = k }) in (m.1, m.0)))))
 
--- ---- the loop over the lines
-pub read_more : (n i : ℕ) (read : List (Option Line)) (text : List ℕ) (line : Option Line) (texts : List (List ℕ))
-    → map (line_said_by n) read ≡ map (line_said n) (take i texts) → i < length texts → text ≡ get_or texts i text → line_said_by n line ≡ line_said n text
-    → map (line_said_by n) (read ++ line ∷ []) ≡ map (line_said n) (take (i + 1) texts)
-read_more n i read text line texts e l t s =
-    map_push (line_said_by n) read line ∙ ap (λ ss. ss ++ line_said_by n line ∷ []) e ∙ ap (λ w. map (line_said n) (take i texts) ++ w ∷ []) (s ∙ ap (line_said n) t) ∙ sym (map_more (line_said n) texts i text l)
+-- ---- lines in a list of numbers that grows
+said_grown : (n : ℕ) (numbers more : List ℕ) (line : Line) → Placed numbers line → said_in n (numbers ++ more) line ≡ said_in n numbers line
+said_grown n numbers more line p =
+    let longer : length (numbers ++ more) ≡ length numbers + length more = length-append numbers more in
+    let was = le-leb line.to (length numbers) p in
+    let is : leb line.to (length (numbers ++ more)) ≡ true = le-leb line.to _ (omega arith) in
+    ⊎_elim
+    (λ e.
+    let h : line.from ≤ line.to = leb-true line.from line.to e in
+    let l : length (drop line.from numbers) ≡ length numbers - line.from = length-drop line.from numbers in
+    let same : take (line.to - line.from) (drop line.from (numbers ++ more)) ≡ take (line.to - line.from) (drop line.from numbers) =
+    ap (take (line.to - line.from)) (drop-append-le line.from numbers more (omega arith)) ∙ take-append-le (line.to - line.from) (drop line.from numbers) more (omega arith) in
+    cond-true (leb line.from line.to && leb line.to (length (numbers ++ more))) _ _ (and_from _ _ e is) ∙ ap (said_behind n line.letter) same
+    ∙ sym (cond-true (leb line.from line.to && leb line.to (length numbers)) _ _ (and_from _ _ e was)))
+    (λ e. cond-false _ _ _ (and_left (leb line.from line.to) _ e) ∙ sym (cond-false _ _ _ (and_left (leb line.from line.to) _ e)))
+    (cases_Bool (leb line.from line.to))
+
+all_placed : (numbers more : List ℕ) (lines : List Line) → AllByRecursion (Placed numbers) lines → AllByRecursion (Placed (numbers ++ more)) lines
+all_placed numbers more [] p = tt
+all_placed numbers more (l ∷ ls) p = (omega (arith, length-append numbers more, p.0), all_placed numbers more ls p.1)
+
+all_said : (n : ℕ) (numbers more : List ℕ) (lines : List Line) → AllByRecursion (Placed numbers) lines → map (said_in n (numbers ++ more)) lines ≡ map (said_in n numbers) lines
+all_said n numbers more [] p = refl
+all_said n numbers more (l ∷ ls) p = let e = said_grown n numbers more l p.0 in let f = all_said n numbers more ls p.1 in rw (e, f) refl
+
+all_push : (P : Line → Type 0) (lines : List Line) (line : Line) → AllByRecursion P lines → P line → AllByRecursion P (lines ++ line ∷ [])
+all_push P [] line p q = (q, tt)
+all_push P (l ∷ ls) line p q = (p.0, all_push P ls line p.1 q)
+
+-- ---- the loop over the lines: after i texts
+pub record Read (texts : List (List ℕ)) (lines : List Line) (numbers : List ℕ) (i : ℕ) : Type 0 where
+  pub placed : AllByRecursion (Placed numbers) lines
+  pub says : (n : ℕ) → map (said_in n numbers) lines ≡ map (line_said n) (take i texts)
+
+pub read_none : (texts : List (List ℕ)) → Read texts [] [] 0
+read_none texts = record { placed = tt; says = λ n. refl }
+
+pub read_more : {texts : List (List ℕ)} {lines : List Line} {numbers : List ℕ} {i : ℕ} (text after : List ℕ) (line : Line)
+    → Read texts lines numbers i → (i < length texts) × (text ≡ get_or texts i text) → LineRead text numbers after line → Read texts (lines ++ line ∷ []) after (i + 1)
+read_more {texts = texts} {lines = lines} {numbers = numbers} {i = i} text after line r t one =
+    record {
+      placed = all_push (Placed after) lines line (rw one.added (all_placed numbers one.more lines r.placed)) one.placed;
+      says = λ n.
+          map_push (said_in n after) lines line
+          ∙ ap (λ ss. ss ++ said_in n after line ∷ []) (ap (λ x. map (said_in n x) lines) one.added ∙ all_said n numbers one.more lines r.placed ∙ r.says n)
+          ∙ ap (λ s. map (line_said n) (take i texts) ++ s ∷ []) (one.says n ∙ ap (line_said n) t.1) ∙ sym (map_more (line_said n) texts i text t.0);
+    }
+
+pub read_as : {texts : List (List ℕ)} {lines lines' : List Line} {numbers numbers' : List ℕ} {i k : ℕ} → lines' ≡ lines → numbers' ≡ numbers → k ≡ i → Read texts lines numbers i
+    → Read texts lines' numbers' k
+read_as e f g r = rw (e, f, g) r

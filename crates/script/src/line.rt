@@ -1,22 +1,25 @@
 // A script as it was read, and what its lines say.
 ghost use Rattle.std.specs.Prelude.{◌≡◌, List, length, slice_index_or};
 ghost use Rattle.script.specs.Grammar.{bad};
-ghost use Rattle.script.specs.Values.{step_said, line_said_by, line_count, said_by};
+ghost use Rattle.script.specs.Values.{step_said, said_in, line_count, said_by};
 
 use crate::step::say;
 use rate_map::call::Call;
 
-// A line: its letter, and its numbers.
-#[derive(Drop)]
+// A line: its letter, and where its numbers stand among those of the script. None is a line that has no letter, or whose
+// numbers have not the form of numbers.
+#[derive(Clone, Copy)]
 pub(crate) struct Line {
-    pub(crate) letter: char,
-    pub(crate) numbers: Vec<u32>,
+    pub(crate) letter: Option<u8>,
+    pub(crate) from: usize,
+    pub(crate) to: usize,
 }
 
-// The lines of a script. None is a line that has no letter, or whose numbers have not the form of numbers.
+// The lines of a script, and the numbers of all lines.
 #[derive(Drop)]
 pub struct Script {
-    pub(crate) lines: Vec<Option<Line>>,
+    pub(crate) lines: Vec<Line>,
+    pub(crate) numbers: Vec<u32>,
 }
 
 // What a line says: a call, the end, or neither.
@@ -30,17 +33,21 @@ pub enum Step<'a> {
 // What the lines of a script say in turn, of a map over a chain of so many states.
 #[derive(Drop)]
 pub struct Steps<'a> {
-    lines: &'a [Option<Line>],
+    lines: &'a [Line],
+    numbers: &'a [u32],
     states: u32,
 }
 
-// What a line says of a map over a chain of so many states.
-fn say_line<'a>(line: &'a Option<Line>, states: u32) -> Step<'a>
-    ensures { step_said result ≡ line_said_by states line.now }
+// What a line says whose numbers stand among these.
+fn say_line<'a>(line: Line, numbers: &'a [u32], states: u32) -> Step<'a>
+    ensures { step_said result ≡ said_in states numbers.now line }
 {
-    match line {
-        Some(line) => say(line.letter, &line.numbers, states),
-        None => Step::Bad,
+    let Line { letter, from, to } = line;
+    match letter {
+        Some(letter) if from <= to && to <= numbers.len() => {
+            say(char::from(letter), &numbers[from..to], states)
+        }
+        _ => Step::Bad,
     }
 }
 
@@ -57,7 +64,7 @@ impl<'a> Iterator for Steps<'a> {
     fn next(&mut self) -> Option<Step<'a>> {
         let (line, rest) = self.lines.split_first()?;
         self.lines = rest;
-        Some(say_line(line, self.states))
+        Some(say_line(*line, self.numbers, self.states))
     }
 }
 
@@ -76,7 +83,7 @@ impl Script {
         ensures { step_said result ≡ slice_index_or (said_by states self.now) number bad }
     {
         match self.lines.get(number) {
-            Some(line) => say_line(line, states),
+            Some(line) => say_line(*line, &self.numbers, states),
             None => Step::Bad,
         }
     }
@@ -87,6 +94,7 @@ impl Script {
     {
         Steps {
             lines: &self.lines,
+            numbers: &self.numbers,
             states,
         }
     }

@@ -1,9 +1,9 @@
 // The numbers of a line.
-ghost use Rattle.std.specs.Prelude.{◌≡◌, ℕ, List, vec_items, option_map, IfOk};
+ghost use Rattle.std.specs.Prelude.{◌≡◌, ℕ, List, IfOk};
 ghost use Rattle.script.specs.Reading.{within, numbers_in};
-ghost use Rattle.script.specs.Values.{number_in};
+ghost use Rattle.script.specs.Values.{number_in, Adds};
 
-use std::alloc::{AllocError, Global};
+use std::alloc::AllocError;
 
 // Reads a number: 1 to 10 digits that make a number below 2^32.
 fn read_number(digits: &[u8]) -> Option<u32>
@@ -22,27 +22,27 @@ fn read_number(digits: &[u8]) -> Option<u32>
     u32::try_from(value).ok()
 }
 
-// Reads the numbers of a text behind its first space. None where the text has not the form of numbers.
-fn read_spaced(heap: Global, text: &[u8]) -> Result<Option<Vec<u32>>, AllocError>
-    ensures { IfOk result (λ found. option_map vec_items found ≡ within 0 0 text.now) }
+// Reads the numbers of a text behind its first space, and adds them to the numbers of the script. False where the text
+// has not the form of numbers.
+fn read_spaced(text: &[u8], numbers: &mut Vec<u32>) -> Result<bool, AllocError>
+    ensures { IfOk result (λ well. Adds well (within 0 0 text.now) numbers.old.items numbers.new.items) }
 {
-    let mut numbers = Vec::new(heap);
     for digits in text.split(|byte| *byte == b' ') {
         let Some(number) = read_number(digits) else {
-            return Ok(None);
+            return Ok(false);
         };
         numbers.push(number)?;
     }
-    Ok(Some(numbers))
+    Ok(true)
 }
 
-// Reads the numbers of a text, each behind one space. None where the text has not the form of numbers.
-pub(crate) fn read_numbers(heap: Global, text: &[u8]) -> Result<Option<Vec<u32>>, AllocError>
-    ensures { IfOk result (λ found. option_map vec_items found ≡ numbers_in text.now) }
+// Reads the numbers of a text, each behind one space.
+pub(crate) fn read_numbers(text: &[u8], numbers: &mut Vec<u32>) -> Result<bool, AllocError>
+    ensures { IfOk result (λ well. Adds well (numbers_in text.now) numbers.old.items numbers.new.items) }
 {
     match text {
-        [] => Ok(Some(Vec::new(heap))),
-        [b' ', rest @ ..] => read_spaced(heap, rest),
-        _ => Ok(None),
+        [] => Ok(true),
+        [b' ', rest @ ..] => read_spaced(rest, numbers),
+        _ => Ok(false),
     }
 }

@@ -2,8 +2,8 @@
 ghost use Rattle.std.specs.Prelude.{◌≡◌, ℕ, List, map as mapped, IfOk};
 ghost use Rattle.rate_map.specs.Told.{command};
 ghost use Rattle.script.specs.Grammar.{ScriptSays};
-ghost use Rattle.script.specs.Reading.{line_said, script_said, commands, closes};
-ghost use Rattle.script.specs.Values.{line_said_by, said_by, without_break};
+ghost use Rattle.script.specs.Reading.{script_said, commands, closes};
+ghost use Rattle.script.specs.Values.{said_by, without_break, LineRead};
 
 use crate::line::{Line, Script, Step};
 use crate::numbers::read_numbers;
@@ -17,18 +17,20 @@ fn without_break<'a>(line: &'a [u8]) -> &'a [u8]
     line.strip_suffix(b"\n").unwrap_or(line)
 }
 
-// Reads one line. None where it has not the form of a letter and numbers.
-fn read_line(heap: Global, text: &[u8]) -> Result<Option<Line>, AllocError>
-    ensures { IfOk result (λ line. (n : ℕ) → line_said_by n line ≡ line_said n text.now) }
+// Reads one line, and adds its numbers to those of the script.
+fn read_line(text: &[u8], numbers: &mut Vec<u32>) -> Result<Line, AllocError>
+    ensures { IfOk result (LineRead text.now numbers.old.items numbers.new.items) }
 {
-    let [letter, rest @ ..] = text else {
-        return Ok(None);
+    let from = numbers.len();
+    let letter = match text {
+        [letter, rest @ ..] => read_numbers(rest, numbers)?.then_some(*letter),
+        [] => None,
     };
-    let numbers = read_numbers(heap, rest)?;
-    Ok(numbers.map(|numbers| Line {
-        letter: char::from(*letter),
-        numbers,
-    }))
+    Ok(Line {
+        letter,
+        from,
+        to: numbers.len(),
+    })
 }
 
 // The calls of a script up to its end, and whether it comes to an end.
@@ -45,10 +47,11 @@ impl Script {
         ensures grammar { IfOk result (λ s. (n : ℕ) → ScriptSays n bytes.now (said_by n s)) }
     {
         let mut lines = Vec::new(heap);
+        let mut numbers = Vec::new(heap);
         for line in bytes.split_inclusive(|byte| *byte == b'\n') {
-            lines.push(read_line(heap, without_break(line))?)?;
+            lines.push(read_line(without_break(line), &mut numbers)?)?;
         }
-        Ok(Script { lines })
+        Ok(Script { lines, numbers })
     }
 
     // The calls that it makes on a map over a chain of so many states.

@@ -8,21 +8,32 @@ use sink::{Encode, Sink};
 use theory::record::{Answer, BoxRecord, Reply, Volumes};
 use theory::verdict::Verdict;
 
+// How long a line can be, and that of the volumes. Where there is room for so much, none is measured.
+pub(crate) const LONGEST_LINE: usize = 238;
+
+pub(crate) const LONGEST_LAST: usize = 63;
+
 // The decimal digits of a number, without leading zeros.
+#[inline(always)]
 fn put_number<S: Sink>(sink: &mut S, n: u64)
     ensures taken { S.Takes sink.old (decimal n) sink.new }
     ensures within { length (decimal n) ≤ 20 }
 {
-    let mut digits = Buffer::new();
-    sink.put(digits.format(n).as_bytes());
+    if n < 10 {
+        sink.put_byte(b'0' + n as u8);
+    } else {
+        let mut digits = Buffer::new();
+        sink.put(digits.format(n).as_bytes());
+    }
 }
 
 // A space and then a number.
+#[inline(always)]
 fn put_spaced<S: Sink>(sink: &mut S, n: u64)
     ensures taken { S.Takes sink.old (spaced n) sink.new }
     ensures within { length (spaced n) ≤ 21 }
 {
-    sink.put(b" ");
+    sink.put_byte(b' ');
     put_number(sink, n);
 }
 
@@ -70,7 +81,7 @@ pub(crate) fn put_volumes<S: Sink>(sink: &mut S, volumes: &Volumes)
     put_number(sink, volumes.safe);
     put_spaced(sink, volumes.exceeding);
     put_spaced(sink, volumes.pending);
-    sink.put(b"\n");
+    sink.put_byte(b'\n');
 }
 
 // The line of a refusal: its number and its place.
@@ -80,7 +91,7 @@ fn put_refusal<S: Sink>(sink: &mut S, refusal: &Refusal)
 {
     put_word(sink, b"refused", refusal.number() as u64);
     put_spaced(sink, refusal.place() as u64);
-    sink.put(b"\n");
+    sink.put_byte(b'\n');
 }
 
 // A number alone.
@@ -89,7 +100,7 @@ fn put_count<S: Sink>(sink: &mut S, n: u32)
     ensures within { length (decimal n ++ 10 ∷ []) ≤ 21 }
 {
     put_number(sink, n as u64);
-    sink.put(b"\n");
+    sink.put_byte(b'\n');
 }
 
 // The line of a box: its number, low and high of so many rates, and its verdict.
@@ -109,7 +120,11 @@ impl Encode for BoxLine<'_> {
         put_number(sink, self.number);
         put_sides(sink, self.rates, self.shown);
         put_verdict(sink, self.shown.verdict);
-        sink.put(b"\n");
+        sink.put_byte(b'\n');
+    }
+
+    fn fits_always(&self, room: usize) -> bool {
+        LONGEST_LINE <= room
     }
 }
 
@@ -139,5 +154,9 @@ impl Encode for AnswerLine<'_> {
             Ok(Reply::Measured(volumes)) => put_volumes(sink, volumes),
             Err(refusal) => put_refusal(sink, refusal),
         }
+    }
+
+    fn fits_always(&self, room: usize) -> bool {
+        LONGEST_LINE <= room
     }
 }

@@ -2,7 +2,7 @@
 ghost use Rattle.std.specs.Prelude.{◌*◌, ◌≤◌, length};
 ghost use Rattle.sheet.specs.Sheet.{box_lines, sheet_bytes, longest_line, longest_sheet};
 
-use crate::line::{BoxLine, put_volumes};
+use crate::line::{BoxLine, LONGEST_LAST, LONGEST_LINE, put_volumes};
 use sink::{Encode, Sink};
 use theory::record::{BoxRecord, Volumes};
 
@@ -38,5 +38,36 @@ impl Encode for Lines<'_> {
     fn encode<S: Sink>(&self, sink: &mut S) {
         self.put_boxes(sink);
         put_volumes(sink, self.volumes);
+    }
+
+    fn fits_always(&self, room: usize) -> bool {
+        let longest = LONGEST_LINE.saturating_mul(self.boxes.len());
+        longest.saturating_add(LONGEST_LAST) <= room
+    }
+
+    // Tells it at the first line that is too long.
+    fn fits(&self, room: usize) -> bool {
+        if self.fits_always(room) {
+            self.short();
+            return true;
+        }
+        let mut left = room;
+        for (i, shown) in self.boxes.iter().enumerate() {
+            let line = BoxLine {
+                number: i as u64,
+                rates: self.rates,
+                shown,
+            };
+            let length = line.length();
+            if left < length {
+                return false;
+            }
+            left -= length;
+        }
+        let last = Lines {
+            boxes: &[],
+            ..*self
+        };
+        last.length() <= left
     }
 }

@@ -32,6 +32,10 @@ impl Sink for Counter {
         self.count = self.count.saturating_add(bytes.len());
     }
 
+    fn put_byte(&mut self, _byte: u8) {
+        self.count = self.count.saturating_add(1);
+    }
+
     ghost none = { λ s. counted_none (2 ^ 64 - 1) s.count };
 
     ghost more = { λ s t u xs ys p q. counted_more (2 ^ 64 - 1) s.count t.count u.count xs ys p q };

@@ -22,16 +22,35 @@ impl<'a> Cursor<'a> {
     {
         Cursor { buffer, at: 0 }
     }
+
+    // The place up to which the buffer is written.
+    pub(crate) fn place(&self) -> usize
+        ensures { result ≡ self.now.at }
+    {
+        self.at
+    }
 }
 
 impl Sink for Cursor<'_> {
     ghost Takes = { λ s xs t. (t.buffer.ghost_name ≡ s.buffer.ghost_name) × Pasted s.buffer.now t.buffer.now s.at t.at xs };
 
     fn put(&mut self, bytes: &[u8]) {
-        let fitting = bytes.len().min(self.buffer.len() - self.at);
-        let end = self.at + fitting;
-        self.buffer[self.at..end].copy_from_slice(&bytes[..fitting]);
-        self.at = end;
+        let end = self.at + bytes.len();
+        if end <= self.buffer.len() {
+            self.buffer[self.at..end].copy_from_slice(bytes);
+            self.at = end;
+        } else {
+            let fitting = self.buffer.len() - self.at;
+            self.buffer[self.at..].copy_from_slice(&bytes[..fitting]);
+            self.at = self.buffer.len();
+        }
+    }
+
+    fn put_byte(&mut self, byte: u8) {
+        if self.at < self.buffer.len() {
+            self.buffer[self.at] = byte;
+            self.at += 1;
+        }
     }
 
     ghost none = { λ s. (refl, pasted_none s.buffer.now s.at) };

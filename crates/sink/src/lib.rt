@@ -2,14 +2,16 @@
 
 #![tactic(auto)]
 
-ghost use Rattle.std.specs.Prelude.{◌≡◌, ℕ, ◌-◌, ◌^◌, ◌≤◌, List, [], ◌++◌, length, min, IsOk};
+ghost use Rattle.std.specs.Prelude.{◌≡◌, ℕ, ◌-◌, ◌^◌, ◌<◌, ◌≤◌, List, [], ◌∷◌, ◌++◌, length, min, IsOk, IsTrue, ◌↔◌};
 ghost use Rattle.sink.specs.Taken.{WritesAll};
 
 mod counter;
 mod cursor;
+mod nothing;
 
 use counter::Counter;
 use cursor::Cursor;
+use nothing::Nothing;
 
 // Takes bytes, one after another. What it has no room for, it drops.
 pub trait Sink {
@@ -18,6 +20,12 @@ pub trait Sink {
 
     fn put(&mut self, bytes: &[u8])
         ensures { Takes self.old bytes.now self.new };
+
+    fn put_byte(&mut self, byte: u8)
+        ensures { Takes self.old (byte ∷ []) self.new }
+    {
+        self.put(&[byte])
+    }
 
     ghost none: { (s : Self) → Takes s [] s };
 
@@ -44,6 +52,35 @@ pub trait Encode {
         self.encode(&mut counter);
         counter.count()
     }
+
+    // Shows that they are no more than `most`. It does nothing.
+    fn short(&self)
+        ensures { length (bytes self.now) ≤ most self.now }
+    {
+        self.encode(&mut Nothing)
+    }
+
+    // Whether so many bytes are sure to be enough, without a look at the value. Where it can't tell, it says no.
+    fn fits_always(&self, room: usize) -> bool
+        requires { room < 2 ^ 63 }
+        ensures { IsTrue result → most self.now ≤ room }
+    {
+        let _ = room;
+        false
+    }
+
+    // Whether so many bytes are enough. A value of many parts can tell it at the first part that is too long.
+    fn fits(&self, room: usize) -> bool
+        requires { room < 2 ^ 63 }
+        ensures exact { IsTrue result ↔ (length (bytes self.now) ≤ room) }
+        ensures enough { most self.now ≤ room → IsTrue result }
+    {
+        if self.fits_always(room) {
+            self.short();
+            return true;
+        }
+        self.length() <= room
+    }
 }
 
 // The buffer has fewer bytes than are to be written.
@@ -55,13 +92,12 @@ pub fn write<E: Encode>(value: &E, buffer: &mut [u8]) -> Result<usize, ShortBuff
     ensures written { WritesAll result buffer.old buffer.new (E.bytes value.now) }
     ensures enough { E.most value.now ≤ length buffer.old → IsOk result }
 {
-    let length = value.length();
-    if buffer.len() < length {
+    if !value.fits(buffer.len()) {
         return Err(ShortBuffer);
     }
     let mut cursor = Cursor::new(buffer);
     value.encode(&mut cursor);
-    Ok(length)
+    Ok(cursor.place())
 }
 
 #[cfg(test)]

@@ -1,5 +1,5 @@
 -- The lowest number at which a test fails.
-use Rattle.std.proofs.Common.{◌≡◌, ℕ, zero, suc, ◌+◌, ◌<◌, Bool, true, false, cond, Some, None, Decides, Option, sym, refl, ap, inl, inr, arith}
+use Rattle.std.proofs.Common.{◌≡◌, ℕ, zero, suc, ◌+◌, ◌<◌, Bool, true, false, cond, Some, None, Decides, Option, sym, refl, ap, inl, inr, add-one, arith}
 use Rattle.std.proofs.lemmas.Bool.{cases_eq}
 use Rattle.theory.specs.Words.{or_else, lowest, is_none, passes}
 
@@ -8,6 +8,9 @@ parts : (o : Option ℕ) (t : Bool) (n : ℕ) → or_else o (cond t None (Some n
 parts None true n e = (refl, refl)
 parts None false n e = let z : ◌≡◌ {A = ℕ} 0 1 = cc in absurd (omega arith)
 parts (Some s) t n e = let z : ◌≡◌ {A = ℕ} 0 1 = cc in absurd (omega arith)
+
+pub lowest_more : (ok : ℕ → Bool) (n : ℕ) → lowest ok n ≡ None → ok n ≡ true → lowest ok (n + 1) ≡ None
+lowest_more ok n e t = rw (add-one, e, t)
 
 pub lowest-found : (ok : ℕ → Bool) (s n : ℕ) → lowest ok s ≡ None → ok s ≡ false → s < n → lowest ok n ≡ Some s
 lowest-found ok s zero e f h = absurd (omega arith)
