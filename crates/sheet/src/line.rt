@@ -38,6 +38,7 @@ fn put_spaced<S: Sink>(sink: &mut S, n: u64)
 }
 
 // A word and then a number.
+#[inline(always)]
 fn put_word<S: Sink>(sink: &mut S, word: &[u8], n: u64)
     ensures taken { S.Takes sink.old (word.now ++ spaced n) sink.new }
     ensures within { length (word.now ++ spaced n) ≤ length word.now + 21 }
