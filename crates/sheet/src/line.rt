@@ -124,8 +124,8 @@ impl Encode for BoxLine<'_> {
         sink.put_byte(b'\n');
     }
 
-    fn fits_always(&self, room: usize) -> bool {
-        LONGEST_LINE <= room
+    fn fits_always(&self, buffer: &[u8]) -> bool {
+        LONGEST_LINE <= buffer.len()
     }
 }
 
@@ -157,7 +157,7 @@ impl Encode for AnswerLine<'_> {
         }
     }
 
-    fn fits_always(&self, room: usize) -> bool {
-        LONGEST_LINE <= room
+    fn fits_always(&self, buffer: &[u8]) -> bool {
+        LONGEST_LINE <= buffer.len()
     }
 }

@@ -40,18 +40,14 @@ impl Encode for Lines<'_> {
         put_volumes(sink, self.volumes);
     }
 
-    fn fits_always(&self, room: usize) -> bool {
+    fn fits_always(&self, buffer: &[u8]) -> bool {
         let longest = LONGEST_LINE.saturating_mul(self.boxes.len());
-        longest.saturating_add(LONGEST_LAST) <= room
+        longest.saturating_add(LONGEST_LAST) <= buffer.len()
     }
 
     // Tells it at the first line that is too long.
-    fn fits(&self, room: usize) -> bool {
-        if self.fits_always(room) {
-            self.short();
-            return true;
-        }
-        let mut left = room;
+    fn fits(&self, buffer: &[u8]) -> bool {
+        let mut left = buffer.len();
         for (i, shown) in self.boxes.iter().enumerate() {
             let line = BoxLine {
                 number: i as u64,

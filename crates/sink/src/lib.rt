@@ -2,7 +2,7 @@
 
 #![tactic(auto)]
 
-ghost use Rattle.std.specs.Prelude.{◌≡◌, ℕ, ◌-◌, ◌^◌, ◌<◌, ◌≤◌, List, [], ◌∷◌, ◌++◌, length, min, IsOk, IsTrue, ◌↔◌};
+ghost use Rattle.std.specs.Prelude.{◌≡◌, ℕ, ◌-◌, ◌^◌, ◌≤◌, List, [], ◌∷◌, ◌++◌, length, min, IsOk, IsTrue, ◌↔◌};
 ghost use Rattle.sink.specs.Taken.{WritesAll};
 
 mod counter;
@@ -60,26 +60,20 @@ pub trait Encode {
         self.encode(&mut Nothing)
     }
 
-    // Whether so many bytes are sure to be enough, without a look at the value. Where it can't tell, it says no.
-    fn fits_always(&self, room: usize) -> bool
-        requires { room < 2 ^ 63 }
-        ensures { IsTrue result → most self.now ≤ room }
+    // Whether a buffer is long enough for any value of the kind. It spares the measure; a kind that can't tell says no.
+    fn fits_always(&self, buffer: &[u8]) -> bool
+        ensures { IsTrue result → most self.now ≤ length buffer.now }
     {
-        let _ = room;
+        let _ = buffer;
         false
     }
 
-    // Whether so many bytes are enough. A value of many parts can tell it at the first part that is too long.
-    fn fits(&self, room: usize) -> bool
-        requires { room < 2 ^ 63 }
-        ensures exact { IsTrue result ↔ (length (bytes self.now) ≤ room) }
-        ensures enough { most self.now ≤ room → IsTrue result }
+    // Whether a buffer is long enough. A value of many parts can tell it at the first part that is too long.
+    fn fits(&self, buffer: &[u8]) -> bool
+        ensures exact { IsTrue result ↔ (length (bytes self.now) ≤ length buffer.now) }
+        ensures enough { most self.now ≤ length buffer.now → IsTrue result }
     {
-        if self.fits_always(room) {
-            self.short();
-            return true;
-        }
-        self.length() <= room
+        self.length() <= buffer.len()
     }
 }
 
@@ -87,12 +81,24 @@ pub trait Encode {
 #[derive(Clone, Copy, PartialEq, Eq, Debug)]
 pub struct ShortBuffer;
 
+// Whether a buffer is long enough for a value, which is measured only if that isn't sure.
+fn has_room<E: Encode>(value: &E, buffer: &[u8]) -> bool
+    ensures exact { IsTrue result ↔ (length (E.bytes value.now) ≤ length buffer.now) }
+    ensures enough { E.most value.now ≤ length buffer.now → IsTrue result }
+{
+    if value.fits_always(buffer) {
+        value.short();
+        return true;
+    }
+    value.fits(buffer)
+}
+
 // Writes a value at the start of a buffer, and gives its length. A buffer that is too short stays as it was.
 pub fn write<E: Encode>(value: &E, buffer: &mut [u8]) -> Result<usize, ShortBuffer>
     ensures written { WritesAll result buffer.old buffer.new (E.bytes value.now) }
     ensures enough { E.most value.now ≤ length buffer.old → IsOk result }
 {
-    if !value.fits(buffer.len()) {
+    if !has_room(value, buffer) {
         return Err(ShortBuffer);
     }
     let mut cursor = Cursor::new(buffer);

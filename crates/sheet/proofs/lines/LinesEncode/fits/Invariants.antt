@@ -6,6 +6,6 @@ use Rattle.sheet.proofs.lines.LinesEncode.fits.Given as goal
 abbrev pub invariant-loop-i : goal.invariant-loop-i
 invariant-loop-i l =
     record {
-      few : l.room ≤ l.left + longest_line * l.i;
-      taken : l.room + length (box_lines l.i l.self.rates (drop l.i l.self.boxes.now)) ≡ l.left + length (box_lines 0 l.self.rates l.self.boxes.now);
+      few : length l.buffer ≤ l.left + longest_line * l.i;
+      taken : length l.buffer + length (box_lines l.i l.self.rates (drop l.i l.self.boxes.now)) ≡ l.left + length (box_lines 0 l.self.rates l.self.boxes.now);
     }
